@@ -1,0 +1,9 @@
+pub mod Laws
+pub mod Numbers
+pub mod Tests
+pub mod Within
+pub mod Fields
+pub mod Chunk
+pub mod Masks
+pub mod Faces
+pub mod RoundTrip

@@ -1,0 +1,3 @@
+pub mod Packed
+pub mod Faces
+pub mod Examples
