@@ -1,0 +1,13 @@
+-- `check_word::step` is one step of the register, whichever its first bit.
+use Rattle.check_word.proofs.Words.{step-high, step-low}
+use Rattle.check_word.proofs.step.Statement.{statement}
+use Rattle.check_word.proofs.step.Tie as tie
+
+returns : tie.Need-returns
+returns c = step-high (c .before .args .c) (c .before .fits .c .fits) (c .if1 .taken)
+
+returns-2 : tie.Need-returns-2
+returns-2 c = step-low (c .before .args .c) (c .before .fits .c .fits) (c .if1 .left)
+
+pub step-spec : {M : Type 1} → statement M
+step-spec = tie.close (tie.spec returns returns-2)

@@ -1,0 +1,51 @@
+-- 01, "The sheet": "Check word, 16 bits, over every byte before it: polynomial x^16 + x^12 + x^5 + 1 (as in ITU-T V.41), started at all ones, most significant bit first, no final change; the high byte stands first."
+use mathlib.Core.Bool.{Bool, true, false, xor, cond, _&&_}
+use mathlib.Core.List.{List, [], _∷_, _++_}
+use Prim.Native.Nat.{ℕ, zero, suc, _+_, _-_, _^_}
+use lib.Dec.{leb, eqb}
+use lib.ListN.{length, take, drop, replicate}
+use Rattle.bits.specs.Packed.{value, digits, bits-of, bytes-of}
+
+-- polynomials over bits are added and subtracted alike: a 1 of the pattern inverts the bit that it stands over, what follows the pattern stays
+unfoldable pub added : List Bool → List Bool → List Bool
+added [] bs = bs
+added (p ∷ ps) [] = []
+added (p ∷ ps) (b ∷ bs) = xor p b ∷ added ps bs
+
+-- "polynomial x^16 + x^12 + x^5 + 1": its sixteen coefficients after the leading one
+unfoldable pub polynomial : List Bool
+polynomial = digits 16 (2 ^ 16 + 2 ^ 12 + 2 ^ 5 + 1)
+
+-- n steps of long division: the first bit goes, and where it is 1 the polynomial is subtracted, its leading coefficient from that bit and the others from the bits that follow
+unfoldable pub divided : ℕ → List Bool → List Bool
+divided zero bs = bs
+divided (suc n) [] = []
+divided (suc n) (b ∷ bs) = divided n (cond b (added polynomial bs) bs)
+
+-- what division leaves: sixteen bits
+unfoldable pub remainder : List Bool → List Bool
+remainder bs = divided (length bs - 16) bs
+
+-- "started at all ones": the division starts with the first sixteen bits inverted
+unfoldable pub started : List Bool → List Bool
+started bs = added (replicate 16 true) bs
+
+-- the check word of a byte string: what is left of its bits and sixteen zeros, the check word's own room; "no final change"
+unfoldable pub check-word : List ℕ → ℕ
+check-word s = value (remainder (started (bits-of s ++ replicate 16 false)))
+
+-- "the high byte stands first": a string and its check word behind it
+unfoldable pub seal : List ℕ → List ℕ
+seal s = s ++ bytes-of 2 (digits 16 (check-word s))
+
+-- "over every byte before it": all but the last two bytes
+unfoldable pub body : List ℕ → List ℕ
+body s = take (length s - 2) s
+
+-- the string's last two bytes are the check word of those before it
+unfoldable pub sealed : List ℕ → Bool
+sealed s = leb 2 (length s) && eqb (value (bits-of (drop (length s - 2) s))) (check-word (body s))
+
+-- the string with the check word in its last two bytes; as it was, where it has no two
+unfoldable pub with-seal : List ℕ → List ℕ
+with-seal s = cond (leb 2 (length s)) (seal (body s)) s
