@@ -1,0 +1,44 @@
+-- Where the fields of a sheet lie, read from its bits: header, task records one after another, fill.
+use mathlib.Core.Bool.{Bool}
+use mathlib.Core.List.{List, [], _∷_}
+use Prim.Native.Nat.{ℕ, zero, suc, _+_, _*_}
+use lib.ListN.{getD, drop}
+use Rattle.theory.specs.Tasks.{Task}
+use Rattle.sheet.specs.Fields.{unpacked, total, header-widths, fixed-widths, frame-widths}
+
+pub record Header : Type 0 where
+  pub version : ℕ
+  pub policy : ℕ
+  pub task-count : ℕ
+  pub spare : ℕ
+
+unfoldable pub header-in : List Bool → Header
+header-in bits =
+    let f = unpacked header-widths bits in
+    record { version = getD f 0 0; policy = getD f 1 0; task-count = getD f 2 0; spare = getD f 3 0 }
+
+-- the bits behind the header
+unfoldable pub records-in : List Bool → List Bool
+records-in bits = drop (total header-widths) bits
+
+-- of the record at the start of the bits: its frame count, its length in bits, its task
+unfoldable pub frame-count-in : List Bool → ℕ
+frame-count-in bits = getD (unpacked fixed-widths bits) 3 0
+
+unfoldable pub record-width : List Bool → ℕ
+record-width bits = total fixed-widths + total (frame-widths (frame-count-in bits))
+
+unfoldable pub task-at-start : List Bool → Task
+task-at-start bits =
+    let f = unpacked fixed-widths bits in
+    record {
+      period = getD f 0 0;
+      deadline = getD f 1 0;
+      lock = getD f 2 0;
+      frames = unpacked (frame-widths (frame-count-in bits)) (drop (total fixed-widths) bits);
+    }
+
+-- n tasks, one record behind the other
+unfoldable pub tasks-in : ℕ → List Bool → List Task
+tasks-in zero bits = []
+tasks-in (suc n) bits = task-at-start bits ∷ tasks-in n (drop (record-width bits) bits)

@@ -1,0 +1,62 @@
+-- What the reader answers to a byte string.
+use mathlib.Core.Bool.{Bool, true, false, not, _&&_}
+use mathlib.Core.List.{List, [], _∷_, _++_}
+use Prim.Native.Nat.{ℕ, zero, suc, _+_}
+use lib.Dec.{leb, ltb, eqb}
+use lib.ListN.{length, drop}
+use Rattle.bits.specs.Packed.{bits-of}
+use Rattle.check_word.specs.Division.{body, sealed}
+use Rattle.theory.specs.Tasks.{Task}
+use Rattle.sheet.specs.Constants.{the-version, least-size, greatest-size}
+use Rattle.sheet.specs.Fields.{total, fixed-widths}
+use Rattle.sheet.specs.Tasks.{sheet-with, blank-sheet}
+use Rattle.sheet.specs.Layout.{header-in, records-in, frame-count-in, record-width, tasks-in}
+use Rattle.sheet.specs.Admission.{Check, _⇒_, outcome, policy-check, task-count-check, frame-count-check, task-checks}
+use Rattle.sheet.specs.declared.Answer.{Answer}
+use Rattle.sheet.specs.declared.Answer.the-variants.{Admitted, Refused}
+use Rattle.sheet.specs.declared.Reading.{Reading}
+use Rattle.sheet.specs.declared.Refusal.the-variants.{Length, CheckWord, Version, BitSet, Records}
+
+-- some bit is 1
+unfoldable pub some-set : List Bool → Bool
+some-set [] = false
+some-set (b ∷ bs) = elim b [ true ↦ true | false ↦ some-set bs ]
+
+-- "Then task by task: 8 if the 64 fixed bits are not all there, 7, 8 if its frames are not. Then 8 for bits left, 5 for fill bits."
+-- n records are still to come, the first of them of task i.
+unfoldable pub layout-checks : ℕ → ℕ → List Bool → List Check
+layout-checks i zero bits = (leb 8 (length bits) ⇒ Records) ∷ (some-set bits ⇒ BitSet) ∷ []
+layout-checks i (suc n) bits =
+    (ltb (length bits) (total fixed-widths) ⇒ Records)
+    ∷ frame-count-check i (frame-count-in bits)
+    ∷ (ltb (length bits) (record-width bits) ⇒ Records)
+    ∷ layout-checks (suc i) n (drop (record-width bits) bits)
+
+-- "Order for a sheet: 1, 2, 3, 4, 5 for header bits, 6. Then task by task .. Then task by task 9, 10, 11."
+unfoldable pub sheet-checks : List ℕ → List Check
+sheet-checks s =
+    let bits = bits-of (body s) in
+    let header = header-in bits in
+    (not (leb least-size (length s) && leb (length s) greatest-size) ⇒ Length)
+    ∷ (not (sealed s) ⇒ CheckWord)
+    ∷ (not (eqb (header .version) the-version) ⇒ Version)
+    ∷ policy-check (header .policy)
+    ∷ (not (eqb (header .spare) 0) ⇒ BitSet)
+    ∷ task-count-check (header .task-count)
+    ∷ layout-checks 0 (header .task-count) (records-in bits)
+    ++ task-checks 0 (tasks-in (header .task-count) (records-in bits))
+
+-- what an admitted sheet carries
+unfoldable pub policy-of : List ℕ → ℕ
+policy-of s = header-in (bits-of (body s)) .policy
+
+unfoldable pub tasks-of : List ℕ → List Task
+tasks-of s = let bits = bits-of (body s) in tasks-in (header-in bits .task-count) (records-in bits)
+
+-- the answer, and beside it the set where the sheet is admitted
+unfoldable pub reading-by : Answer → List ℕ → Reading
+reading-by Admitted s = record { answer = Admitted; sheet = sheet-with (policy-of s) (tasks-of s) }
+reading-by (Refused r) s = record { answer = Refused r; sheet = blank-sheet }
+
+unfoldable pub reading : List ℕ → Reading
+reading s = reading-by (outcome (sheet-checks s)) s

@@ -1,0 +1,33 @@
+-- 01, "What is turned away, by number".
+use Prim.Native.Nat.{ℕ}
+use Rattle.sheet.specs.declared.Refusal.{Refusal}
+use Rattle.sheet.specs.declared.Refusal.the-variants.{Length, CheckWord, Version, Policy, BitSet, TaskCount, FrameCount, Records, IllFormed, Lock, NotMonotonic, Room}
+
+abbrev pub number-of : Refusal → ℕ
+number-of Length = 1
+number-of CheckWord = 2
+number-of Version = 3
+number-of Policy = 4
+number-of BitSet = 5
+number-of TaskCount = 6
+number-of (FrameCount i) = 7
+number-of Records = 8
+number-of (IllFormed i) = 9
+number-of (Lock i) = 10
+number-of (NotMonotonic i) = 11
+number-of Room = 12
+
+-- "A refusal returns its number and the task number for 7, 9, 10 and 11 (else 0)"
+abbrev pub task-of-refusal : Refusal → ℕ
+task-of-refusal Length = 0
+task-of-refusal CheckWord = 0
+task-of-refusal Version = 0
+task-of-refusal Policy = 0
+task-of-refusal BitSet = 0
+task-of-refusal TaskCount = 0
+task-of-refusal (FrameCount i) = i
+task-of-refusal Records = 0
+task-of-refusal (IllFormed i) = i
+task-of-refusal (Lock i) = i
+task-of-refusal (NotMonotonic i) = i
+task-of-refusal Room = 0

@@ -1,0 +1,44 @@
+-- Tasks and the records that hold them: 01, "The workbench holds the set as a lent list of task records".
+use mathlib.Core.List.{List, [], _∷_, _++_, map}
+use Prim.Native.Nat.{ℕ, _-_}
+use lib.ListN.{length, take, replicate}
+use Rattle.theory.specs.Tasks.{Task}
+use Rattle.sheet.specs.Constants.{most-tasks, most-frames}
+use Rattle.sheet.specs.declared.Task.{Task as Record}
+use Rattle.sheet.specs.declared.Sheet.{Sheet}
+
+-- "each has room for eight frame times and a frame count. Places past the count are not read,"
+unfoldable pub task-in : Record → Task
+task-in r = record { period = r .period; deadline = r .deadline; lock = r .lock; frames = take (r .«frame_count») (r .frames) }
+
+-- "and are 0 when we fill a record"
+unfoldable pub record-of : Task → Record
+record-of t =
+    record {
+      period = t .period;
+      deadline = t .deadline;
+      lock = t .lock;
+      «frame_count» = length (t .frames);
+      frames = t .frames ++ replicate (most-frames - length (t .frames)) 0;
+    }
+
+-- a record of zeros
+unfoldable pub blank-record : Record
+blank-record = record { period = 0; deadline = 0; lock = 0; «frame_count» = 0; frames = replicate most-frames 0 }
+
+-- the records of a set by value that are in use
+unfoldable pub records-of : Sheet → List Record
+records-of s = take (s .«task_count») (s .tasks)
+
+-- a policy and tasks as a set by value
+unfoldable pub sheet-with : ℕ → List Task → Sheet
+sheet-with policy tasks =
+    record {
+      policy = policy;
+      «task_count» = length tasks;
+      tasks = map record-of tasks ++ replicate (most-tasks - length tasks) blank-record;
+    }
+
+-- a set by value with no task
+unfoldable pub blank-sheet : Sheet
+blank-sheet = sheet-with 0 []

@@ -1,0 +1,217 @@
+// The sheet: its constants, stated once, the task record, and the refusals by number.
+ghost use mathlib.Core.Path.{_≡_};
+ghost use Rattle.sheet.specs.Pairs.{the-widths, the-limits, the-policies};
+ghost use Rattle.sheet.specs.Tasks.{blank-record, blank-sheet};
+ghost use Rattle.sheet.specs.Refusals.{number-of, task-of-refusal};
+
+// A task as the workbench holds it: places of `frames` past `frame_count` are not read, and are 0 when a record is filled.
+#[repr(C)]
+pub struct Task {
+    pub period: u32,
+    pub deadline: u32,
+    pub lock: u32,
+    pub frame_count: u32,
+    pub frames: [u32; 8],
+}
+
+// What a sheet carries: the policy and, of sixteen records, the first `task_count`.
+pub struct Sheet {
+    pub policy: u32,
+    pub task_count: u32,
+    pub tasks: [Task; 16],
+}
+
+// The widths of the sheet's fields, in bits.
+pub struct Widths {
+    pub version: usize,
+    pub policy: usize,
+    pub task_count: usize,
+    pub spare: usize,
+    pub time: usize,
+    pub frame_count: usize,
+}
+
+// What the sheet's numbers are held to.
+pub struct Limits {
+    pub version: u32,
+    pub tasks: u32,
+    pub frames: u32,
+    pub time: u32,
+    pub least_size: usize,
+    pub greatest_size: usize,
+}
+
+pub struct Policies {
+    pub listed: u32,
+    pub rate_monotonic: u32,
+    pub deadline_monotonic: u32,
+}
+
+impl Sheet {
+    pub const VERSION_WIDTH: usize = 4;
+
+    pub const POLICY_WIDTH: usize = 2;
+
+    pub const TASK_COUNT_WIDTH: usize = 5;
+
+    pub const SPARE_WIDTH: usize = 5;
+
+    pub const TIME_WIDTH: usize = 20;
+
+    pub const FRAME_COUNT_WIDTH: usize = 4;
+
+    pub const VERSION: u32 = 1;
+
+    pub const MOST_TASKS: u32 = 16;
+
+    pub const MOST_FRAMES: u32 = 8;
+
+    pub const GREATEST_TIME: u32 = 1_048_575;
+
+    pub const LEAST_SIZE: usize = 15;
+
+    pub const GREATEST_SIZE: usize = 452;
+
+    pub const LISTED: u32 = 0;
+
+    pub const RATE_MONOTONIC: u32 = 1;
+
+    pub const DEADLINE_MONOTONIC: u32 = 2;
+
+    // The constants and the numbers of the definitions are the same: neither can be changed alone.
+    pub fn widths() -> Widths
+        ensures { λ r. ⌜ r ≡ the-widths ⌝ }
+    {
+        Widths {
+            version: Sheet::VERSION_WIDTH,
+            policy: Sheet::POLICY_WIDTH,
+            task_count: Sheet::TASK_COUNT_WIDTH,
+            spare: Sheet::SPARE_WIDTH,
+            time: Sheet::TIME_WIDTH,
+            frame_count: Sheet::FRAME_COUNT_WIDTH,
+        }
+    }
+
+    pub fn limits() -> Limits
+        ensures { λ r. ⌜ r ≡ the-limits ⌝ }
+    {
+        Limits {
+            version: Sheet::VERSION,
+            tasks: Sheet::MOST_TASKS,
+            frames: Sheet::MOST_FRAMES,
+            time: Sheet::GREATEST_TIME,
+            least_size: Sheet::LEAST_SIZE,
+            greatest_size: Sheet::GREATEST_SIZE,
+        }
+    }
+
+    pub fn policies() -> Policies
+        ensures { λ r. ⌜ r ≡ the-policies ⌝ }
+    {
+        Policies {
+            listed: Sheet::LISTED,
+            rate_monotonic: Sheet::RATE_MONOTONIC,
+            deadline_monotonic: Sheet::DEADLINE_MONOTONIC,
+        }
+    }
+
+    // A set with no task.
+    pub fn blank() -> Sheet
+        ensures { λ r. ⌜ r ≡ blank-sheet ⌝ }
+    {
+        Sheet {
+            policy: 0,
+            task_count: 0,
+            tasks: [Task::blank(); 16],
+        }
+    }
+}
+
+impl Task {
+    // A record of zeros.
+    pub fn blank() -> Task
+        ensures { λ r. ⌜ r ≡ blank-record ⌝ }
+    {
+        Task {
+            period: 0,
+            deadline: 0,
+            lock: 0,
+            frame_count: 0,
+            frames: [0; 8],
+        }
+    }
+}
+
+// What is turned away, in the order of the numbers 1 to 12; a task number where the number belongs to a task.
+pub enum Refusal {
+    Length,
+    CheckWord,
+    Version,
+    Policy,
+    BitSet,
+    TaskCount,
+    FrameCount(u32),
+    Records,
+    IllFormed(u32),
+    Lock(u32),
+    NotMonotonic(u32),
+    Room,
+}
+
+impl Refusal {
+    pub fn number(self) -> u32
+        ensures { λ r. ⌜ r ≡ number-of self ⌝ }
+    {
+        match self {
+            Refusal::Length => 1,
+            Refusal::CheckWord => 2,
+            Refusal::Version => 3,
+            Refusal::Policy => 4,
+            Refusal::BitSet => 5,
+            Refusal::TaskCount => 6,
+            Refusal::FrameCount(_) => 7,
+            Refusal::Records => 8,
+            Refusal::IllFormed(_) => 9,
+            Refusal::Lock(_) => 10,
+            Refusal::NotMonotonic(_) => 11,
+            Refusal::Room => 12,
+        }
+    }
+
+    pub fn task(self) -> u32
+        ensures { λ r. ⌜ r ≡ task-of-refusal self ⌝ }
+    {
+        match self {
+            Refusal::FrameCount(i) => i,
+            Refusal::IllFormed(i) => i,
+            Refusal::Lock(i) => i,
+            Refusal::NotMonotonic(i) => i,
+            Refusal::Length => 0,
+            Refusal::CheckWord => 0,
+            Refusal::Version => 0,
+            Refusal::Policy => 0,
+            Refusal::BitSet => 0,
+            Refusal::TaskCount => 0,
+            Refusal::Records => 0,
+            Refusal::Room => 0,
+        }
+    }
+}
+
+// Whether something was admitted, or the one refusal.
+pub enum Answer {
+    Admitted,
+    Refused(Refusal),
+}
+
+// What the reader gives: beside a refusal stands a set with no task.
+pub struct Reading {
+    pub answer: Answer,
+    pub sheet: Sheet,
+}
+
+// What the writer gives: how many bytes it wrote, or the refusal.
+pub enum Written {
+    Bytes(usize),
+    TurnedAway(Refusal),
+}

@@ -1,0 +1,80 @@
+-- Laws of ⌈t/T⌉ and of the demand: monotone in t, in blocking, in frames and in the tasks above; the same in any order of those.
+use mathlib.Core.List.{List, [], _∷_, Perm, List·Permᴰ, List·Permᴰ·nil, List·Permᴰ·cons, List·Permᴰ·swap, List·Permᴰ·trans}
+use mathlib.Core.Logic.{_↔_, ∥∥₁-elim}
+use mathlib.Core.Path.{_≡_, refl, _∙_, ap}
+use Prim.Native.Nat.{ℕ, zero, suc, _+_, _-_, _*_, _/_, _≤_, _<_}
+use native.Mathlib.Nat.{ℕ-set, le-refl, le-trans, le-of-eq, add-le-add, le-add-left, le-div-iff-mul-le, div-mul-le-self, div-zero, suc-mul, add-left-comm}
+use native.Mathlib.Omega.{arith}
+use Rattle.theory.specs.Tasks.{work}
+use Rattle.theory.specs.Analysis.{Higher, releases, higher-work, demand}
+use Rattle.theory.proofs.Work.{work-mono}
+
+-- ---- ⌈t/T⌉
+
+-- more than n releases fit into t ticks exactly if n whole periods are less than t
+pub releases-more : {T : ℕ} (n t : ℕ) → 1 ≤ T → (n < releases t T) ↔ (n * T < t)
+unfolding releases
+releases-more {T} n t h = (
+  λ l. omega (arith, suc-mul n T, le-div-iff-mul-le {x = suc n} {y = t + (T - 1)} h .0 l),
+  λ l. le-div-iff-mul-le {x = suc n} {y = t + (T - 1)} h .1 (omega (arith, suc-mul n T)),
+)
+
+div-mono : (k : ℕ) {n m : ℕ} → n ≤ m → n / k ≤ m / k
+div-mono zero {n} {m} h = rw (div-zero n, div-zero m) (le-refl 0)
+div-mono (suc k) {n} {m} h = le-div-iff-mul-le {k = suc k} (omega arith) .1 (le-trans (div-mul-le-self n (suc k)) h)
+
+pub releases-mono : (T : ℕ) {t u : ℕ} → t ≤ u → releases t T ≤ releases u T
+unfolding releases
+releases-mono T h = div-mono T (omega arith)
+
+-- ---- the work of the higher tasks
+
+pub higher-work-mono : (hs : List Higher) {t u : ℕ} → t ≤ u → higher-work hs t ≤ higher-work hs u
+unfolding higher-work
+higher-work-mono [] h = le-refl 0
+higher-work-mono (x ∷ hs) {t} {u} h = add-le-add (work-mono (x .task) (x .start) (releases-mono (x .task .period) h)) (higher-work-mono hs h)
+
+-- a higher task with the same period and at least as much work in every number of jobs
+pub record AtLeast (h g : Higher) : Type 0 where
+  pub same-period : h .task .period ≡ g .task .period
+  pub more-work : (n : ℕ) → work (h .task) (h .start) n ≤ work (g .task) (g .start) n
+
+-- each task of the first list stands in the second, with at least as much work; the second may have more tasks
+pub data Within : List Higher → List Higher → Type 0 where
+  nobody : Within [] []
+  extra : {g : Higher} {hs gs : List Higher} → Within hs gs → Within hs (g ∷ gs)
+  each : {h g : Higher} {hs gs : List Higher} → AtLeast h g → Within hs gs → Within (h ∷ hs) (g ∷ gs)
+
+pub within-refl : (hs : List Higher) → Within hs hs
+within-refl [] = nobody
+within-refl (h ∷ hs) = each (record { same-period = refl; more-work = λ n. le-refl _ }) (within-refl hs)
+
+pub higher-work-within : {hs gs : List Higher} → Within hs gs → (t : ℕ) → higher-work hs t ≤ higher-work gs t
+unfolding higher-work
+higher-work-within nobody t = le-refl 0
+higher-work-within (extra {g = g} w) t = le-trans (higher-work-within w t) (le-add-left _ _)
+higher-work-within (each {h = h} {g = g} a w) t = add-le-add
+    (le-trans (le-of-eq (ap (λ T. work (h .task) (h .start) (releases t T)) (a .same-period))) (a .more-work (releases t (g .task .period))))
+    (higher-work-within w t)
+
+-- demand is monotone in blocking, in the own frame, in the tasks above and their frames, and in t
+pub demand-mono : {B B′ C C′ t u : ℕ} {hs gs : List Higher} → B ≤ B′ → C ≤ C′ → Within hs gs → t ≤ u → demand B C hs t ≤ demand B′ C′ gs u
+unfolding demand
+demand-mono {t = t} {gs = gs} b c w h = add-le-add (add-le-add b c) (le-trans (higher-work-within w t) (higher-work-mono gs h))
+
+-- it does not depend on the order of the tasks above
+higher-work-permᴰ : {hs gs : List Higher} → List·Permᴰ hs gs → (t : ℕ) → higher-work hs t ≡ higher-work gs t
+unfolding higher-work
+higher-work-permᴰ List·Permᴰ·nil t = refl
+higher-work-permᴰ (List·Permᴰ·cons {b = g} e d) t = rw (e, higher-work-permᴰ d t)
+higher-work-permᴰ (List·Permᴰ·swap {a′ = a} {b′ = b} e q) t = rw (e, q) (add-left-comm _ _ _)
+higher-work-permᴰ (List·Permᴰ·trans d e) t = higher-work-permᴰ d t ∙ higher-work-permᴰ e t
+
+pub demand-order : (B C : ℕ) {hs gs : List Higher} → Perm hs gs → (t : ℕ) → demand B C hs t ≡ demand B C gs t
+unfolding demand
+demand-order B C d t = ap (λ x. B + C + x) (∥∥₁-elim d (ℕ-set _ _) (λ e. higher-work-permᴰ e t))
+
+-- the demand is at least blocking plus the frame
+pub demand-least : (B C : ℕ) (hs : List Higher) (t : ℕ) → B + C ≤ demand B C hs t
+unfolding demand
+demand-least B C hs t = omega arith

@@ -1,0 +1,87 @@
+-- 01, "A task and a set": a task, its frames going round, its start frame, and when a set is admitted.
+use mathlib.Core.Bool.{Bool}
+use mathlib.Core.List.{List, [], _∷_}
+use mathlib.Core.Option.{Option·getD}
+use Prim.Native.Nat.{ℕ, zero, suc, _+_, _%_, _≤_, _<_, max}
+use lib.Dec.{leb, eqb}
+use lib.ListN.{length, getD}
+use Rattle.theory.specs.First.{first, every}
+
+-- A task has a period T, a deadline D, a lock Q and 1 to 8 frame times, numbered from 0.
+pub record Task : Type 0 where
+  pub period : ℕ
+  pub deadline : ℕ
+  pub lock : ℕ
+  pub frames : List ℕ
+
+-- the task at a place of a list in priority order (place 0 is highest); past the list, a task of zeros that nothing reads
+unfoldable pub task-at : List Task → ℕ → Task
+task-at set p = getD set p (record { period = 0; deadline = 0; lock = 0; frames = [] })
+
+-- the number of frames
+unfoldable pub frame-count : Task → ℕ
+frame-count t = length (t .frames)
+
+-- the frame that follows frame k, going round the list
+unfoldable pub next-frame : Task → ℕ → ℕ
+next-frame t k = suc k % frame-count t
+
+-- the time of frame k, going round the list
+unfoldable pub frame : Task → ℕ → ℕ
+frame t k = getD (t .frames) (k % frame-count t) 0
+
+-- the deadline of frame k
+unfoldable pub deadline-of : Task → ℕ → ℕ
+deadline-of t k = t .deadline
+
+-- the work of n jobs from frame k: the sum of n frames, going round
+unfoldable pub work : Task → ℕ → ℕ → ℕ
+work t k zero = 0
+work t k (suc n) = work t k n + frame t (k + n)
+
+-- the largest number of a list
+unfoldable pub largest : List ℕ → ℕ
+largest [] = 0
+largest (c ∷ cs) = max c (largest cs)
+
+-- the lowest-numbered largest frame
+unfoldable pub largest-frame : Task → ℕ
+largest-frame t = Option·getD (first 0 (frame-count t) (λ k. eqb (frame t k) (largest (t .frames)))) 0
+
+-- .. for each length from 1 to the number of frames, the sum of that many frames from the start, going round the list, is at
+-- least the same sum from any other frame.
+unfoldable pub Qualifies : Task → ℕ → Type 0
+Qualifies t s = (n k : ℕ) → 1 ≤ n → n ≤ frame-count t → k < frame-count t → work t k n ≤ work t s n
+
+-- the same as a test
+unfoldable pub qualifies : Task → ℕ → Bool
+qualifies t s = every 1 (frame-count t) (λ n. every 0 (frame-count t) (λ k. leb (work t k n) (work t s n)))
+
+-- The start frame is the lowest-numbered that qualifies.
+unfoldable pub start-frame : Task → ℕ
+start-frame t = Option·getD (first 0 (frame-count t) (qualifies t)) 0
+
+-- Well formed: every frame time ≤ D, and D ≤ T. (0 < C ≤ D ≤ T)
+pub record WellFormed (t : Task) : Type 0 where
+  pub has-frame : 1 ≤ frame-count t
+  pub frame-positive : (k : ℕ) → k < frame-count t → 1 ≤ frame t k
+  pub frame-in-deadline : (k : ℕ) → k < frame-count t → frame t k ≤ deadline-of t k
+  pub deadline-in-period : (k : ℕ) → k < frame-count t → deadline-of t k ≤ t .period
+
+-- Accumulatively monotonic: there is a start frame.
+pub record Monotonic (t : Task) : Type 0 where
+  pub start : ℕ
+  pub start-in : start < frame-count t
+  pub start-qualifies : Qualifies t start
+
+-- what is asked of each task
+pub record AdmittedTask (t : Task) : Type 0 where
+  pub well-formed : WellFormed t
+  -- Lock: Q is at most the largest frame time.
+  pub lock-rule : t .lock ≤ largest (t .frames)
+  pub monotonic : Monotonic t
+
+-- a set of one or more such tasks (01's upper limits of numbers belong to the sheet)
+pub record Admitted (set : List Task) : Type 0 where
+  pub some-task : 1 ≤ length set
+  pub each-task : (p : ℕ) → p < length set → AdmittedTask (task-at set p)
