@@ -1,0 +1,3 @@
+-- The analysis of a set by task numbers: verdict, response times, and what the entries answer and leave.
+pub mod Times
+pub mod Answers

@@ -1,0 +1,17 @@
+// The analysis of a set: order by policy, response times, verdict.
+ghost use mathlib.Core.Path.{_≡_};
+use order::Blocker;
+use sheet::Refusal;
+
+// What the analysis answers: the set holds, or the first task in priority order that does not pass, with its blocker, or the one refusal.
+pub enum Outcome {
+    Holds,
+    Missed(u32, Blocker),
+    Refused(Refusal),
+}
+
+// The outcome, and the response times: eight places for each task, in task-number order.
+pub struct Analysis {
+    pub outcome: Outcome,
+    pub times: [u32; 128],
+}

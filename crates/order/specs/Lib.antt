@@ -1,0 +1,3 @@
+-- Priority order by policy, and what stands below a task.
+pub mod Order
+pub mod Ordered
