@@ -41,12 +41,12 @@ times-from set p k zero = []
 times-from set p k (suc n) = Option·getD (response-of set p k) 0 ∷ times-from set p (suc k) n
 
 -- "eight places per task .. frame by frame. Places without a frame hold 0. If a task does not pass, all its eight places hold 0."
+unfoldable pub places-by : Bool → List ℕ → List ℕ
+places-by true times = times ++ replicate (most-frames - length times) 0
+places-by false times = replicate most-frames 0
+
 unfoldable pub places-of : List Task → ℕ → List ℕ
-places-of set p =
-    elim (passes set p) [
-      | true ↦ times-from set p 0 (frame-count (task-at set p)) ++ replicate (most-frames - frame-count (task-at set p)) 0
-      | false ↦ replicate most-frames 0
-    ]
+places-of set p = places-by (passes set p) (times-from set p 0 (frame-count (task-at set p)))
 
 -- "in task-number order": the places of n tasks, of which the first has number i
 unfoldable pub places-from : List ℕ → List Task → ℕ → ℕ → List ℕ

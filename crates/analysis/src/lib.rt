@@ -15,3 +15,9 @@ pub struct Analysis {
     pub outcome: Outcome,
     pub times: [u32; 128],
 }
+
+// What is kept of one task: whether it passes, and its eight places.
+pub struct Row {
+    pub passes: bool,
+    pub times: [u32; 8],
+}

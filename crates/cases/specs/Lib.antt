@@ -1,0 +1,2 @@
+-- 01, "Sets worked by hand": cases A to M, one table.
+pub mod Table
