@@ -3,24 +3,28 @@ use mathlib.Core.Bool.{Bool}
 use mathlib.Core.List.{List, List·Memᴰ}
 use mathlib.Core.Logic.{_⊎_, inl, inr}
 use mathlib.Core.Option.{Option, none, some}
-use mathlib.Core.Path.{_≡_, refl, sym, _∙_, ap, subst}
+use mathlib.Core.Path.{_≡_, refl, sym, _∙_, subst}
 use Prim.Native.Nat.{ℕ, zero, suc, _+_, _*_, _%_, _≤_, _<_}
 use native.Mathlib.Decide.{le-ind}
-use native.Mathlib.Nat.{le-trans, add-zero, add-suc, zero-mul, suc-mul, mul-le-mul-right, mod-eq-of-lt, suc-mod, not-suc-le-zero}
+use native.Mathlib.Nat.{le-trans, add-zero, zero-mul, suc-mul, mul-le-mul-right, mod-eq-of-lt, not-suc-le-zero}
 use native.Mathlib.Omega.{arith}
 use lib.ListN.{length}
-use Rattle.theory.specs.Tasks.{Task, task-at, frame-count, frame, next-frame, work}
+use Rattle.theory.specs.Tasks.{Task, task-at, frame-count, frame, work}
 use Rattle.theory.specs.Analysis.{releases}
 use Rattle.theory.specs.Runs.{job, Lane, Run, release-lane, serve-lane, start-state, state-at, Legal}
-use Rattle.theory.proofs.Work.{frame-mod, work-suc, next-frame-lt}
+use Rattle.theory.proofs.Work.{frame-mod, work-suc, next-frame-lt, next-frame-after}
 use Rattle.theory.proofs.Demand.{releases-more}
 use Rattle.theory.proofs.Lanes.{total, given, release-mem, serve-lane-next, serve-lane-free, Unfinished, unfinished-none, unfinished-serve}
-use Rattle.theory.proofs.Steps.{lane-step, seen-lane}
+use Rattle.theory.proofs.Steps.{lane-after, next-after}
 
 -- the work that the task at place q has released before time t
 unfoldable pub arrived : Run → ℕ → ℕ → ℕ
 arrived run q zero = 0
 arrived run q (suc t) = arrived run q t + given (run .input t .release-of q)
+
+pub arrived-zero : (run : Run) (q : ℕ) → arrived run q 0 ≡ 0
+unfolding arrived
+arrived-zero run q = refl
 
 pub arrived-suc : (run : Run) (q t : ℕ) → arrived run q (suc t) ≡ arrived run q t + given (run .input t .release-of q)
 unfolding arrived
@@ -57,11 +61,10 @@ in-place {task} {a} {n = n} {t = t} {l = l} s h free = go n (s .spaced)
     go (suc m) sp = le-trans (sp (omega arith)) free
 
 since-some : {task : Task} {a k n t : ℕ} {l : Lane} (w : ℕ) → Since task a k n t l → a ≤ t → l .free-from ≤ t → Since task a k (suc n) (suc t) (release-lane task t (some w) l)
-unfolding release-lane next-frame
+unfolding release-lane
 since-some {task} {a} {k} {n} {t} {l} w s h free =
     record {
-      next-is =
-          ap (λ x. suc x % frame-count task) (s .next-is) ∙ sym (suc-mod (k + n) (frame-count task)) ∙ ap (λ x. x % frame-count task) (sym (add-suc k n));
+      next-is = next-frame-after task k n (s .next-is);
       spaced = λ _. omega (arith, suc-mul n (task .period), in-place s h free);
       recent = λ j u. omega (arith, mul-le-mul-right {m = j} {n = n} (task .period) (omega arith), in-place s h free);
       unfinished = λ r f v m. go r f (release-mem task t (some w) l m) (s .unfinished r f v);
@@ -86,16 +89,12 @@ release-next-in task t none l h = h
 release-next-in task t (some w) l h = next-frame-lt task (l .next) (omega arith)
 
 module _ (set : List Task) (run : Run) (legal : Legal set run) (q : ℕ) (in-set : q < length set) where
-  lane-after : (t : ℕ) → (b : Bool) × (state-at set run (suc t) .lanes q ≡ serve-lane b (release-lane (task-at set q) t (run .input t .release-of q) (state-at set run t .lanes q)))
-  lane-after t = let (b, e) = lane-step set run t q in (b, e ∙ ap (serve-lane b) (seen-lane set run t q))
-
   -- the frame of the next job is a frame
   pub next-in : (t : ℕ) → t ≤ run .ticks → state-at set run t .lanes q .next < frame-count (task-at set q)
   unfolding state-at start-state
   next-in zero h = legal .first-frames q in-set
   next-in (suc t) h =
-      let (b, e) = lane-after t in
-      rw (ap (λ l. l .next) e, serve-lane-next b (release-lane (task-at set q) t (run .input t .release-of q) (state-at set run t .lanes q)))
+      rw (next-after set run t q refl)
       (release-next-in (task-at set q) t (run .input t .release-of q) (state-at set run t .lanes q) (next-in t (omega arith)))
 
   module _ (a : ℕ) where
@@ -124,7 +123,7 @@ module _ (set : List Task) (run : Run) (legal : Legal set run) (q : ℕ) (in-set
     unfolding first-next
     released-step t n h k r =
         let (m, (s, w)) = released-one t n h k r (run .input t .release-of q) refl in
-        let (b, e) = lane-after t in (
+        let (b, e) = lane-after set run t q refl in (
           m,
           record {
             since = subst (Since (task-at set q) a first-next m (suc t)) (sym e) (since-serve b _ s);

@@ -103,11 +103,7 @@ module _ (set : List Task) (p : ℕ) where
   blocker-blocks e = let b : IsBlocker _ = blocker-is e in omega (arith, b .has-largest, b .locks)
 
   blocker-no-later : {b c : ℕ} → IsBlocker b → IsBlocker c → b ≤ c
-  blocker-no-later {b} {c} i j = go (decLe b c)
-    where
-      go : Dec (b ≤ c) → b ≤ c
-      go (yes h) = h
-      go (no h) = let z : ⊥ = omega (arith, i .is-first c (j .below) (omega arith), j .has-largest) in absurd z
+  blocker-no-later {b} {c} i j = let not-later : ¬ (c < b) = λ l. omega (arith, i .is-first c (j .below) l, j .has-largest) in omega arith
 
   pub blocker-when : {b : ℕ} → IsBlocker b → blocker set p ≡ some b
   unfolding blocking

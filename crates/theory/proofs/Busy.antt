@@ -36,7 +36,7 @@ module _ (set : List Task) (run : Run) (p : ℕ) where
       omega (arith, sum-at (λ q. total (state-at set run t .lanes q .jobs)) in-sum)
 
   -- releases add their work
-  seen-work : (t : ℕ) → pending-work p (seen-at set run t) + arrived-above run p t ≡ pending-work p (state-at set run t) + arrived-above run p (suc t)
+  pub seen-work : (t : ℕ) → pending-work p (seen-at set run t) + arrived-above run p t ≡ pending-work p (state-at set run t) + arrived-above run p (suc t)
   unfolding pending-work arrived-above
   seen-work t = omega (arith, lanes, sum-add (suc p) before new, arrivals, sum-add (suc p) (λ q. arrived run q t) new)
     where

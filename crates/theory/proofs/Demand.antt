@@ -1,9 +1,9 @@
 -- Laws of ⌈t/T⌉ and of the demand: monotone in t, in blocking, in frames and in the tasks above; the same in any order of those.
 use mathlib.Core.List.{List, [], _∷_, Perm, List·Permᴰ, List·Permᴰ·nil, List·Permᴰ·cons, List·Permᴰ·swap, List·Permᴰ·trans}
 use mathlib.Core.Logic.{_↔_, ∥∥₁-elim}
-use mathlib.Core.Path.{_≡_, refl, _∙_, ap}
-use Prim.Native.Nat.{ℕ, zero, suc, _+_, _-_, _*_, _/_, _≤_, _<_}
-use native.Mathlib.Nat.{ℕ-set, le-refl, le-trans, le-of-eq, add-le-add, le-add-left, le-div-iff-mul-le, div-mul-le-self, div-zero, suc-mul, add-left-comm}
+use mathlib.Core.Path.{_≡_, refl, sym, _∙_, ap}
+use Prim.Native.Nat.{ℕ, zero, suc, _+_, _-_, _*_, _/_, _%_, _≤_, _<_}
+use native.Mathlib.Nat.{ℕ-set, le-refl, le-trans, le-of-eq, add-le-add, le-add-left, le-antisymm, le-div-iff-mul-le, div-mul-le-self, div-zero, div-add-mod', mod-lt, zero-mul, suc-mul, add-left-comm}
 use native.Mathlib.Omega.{arith}
 use Rattle.theory.specs.Tasks.{work}
 use Rattle.theory.specs.Analysis.{Higher, releases, higher-work, demand}
@@ -26,6 +26,34 @@ div-mono (suc k) {n} {m} h = le-div-iff-mul-le {k = suc k} (omega arith) .1 (le-
 pub releases-mono : (T : ℕ) {t u : ℕ} → t ≤ u → releases t T ≤ releases u T
 unfolding releases
 releases-mono T h = div-mono T (omega arith)
+
+module _ {T : ℕ} (positive : 1 ≤ T) where
+  -- ⌈t/T⌉ is the number of periods that t ticks just need
+  releases-is : (n t : ℕ) → t ≤ n * T → n * T < t + T → releases t T ≡ n
+  releases-is n t enough just =
+      let no-more : ¬ (n < releases t T) = λ l. omega (arith, releases-more n t positive .0 l) in
+      le-antisymm (omega arith) (no-less n just)
+    where
+      no-less : (n : ℕ) → n * T < t + T → n ≤ releases t T
+      no-less zero h = omega arith
+      no-less (suc m) h = releases-more m t positive .1 (omega (arith, suc-mul m T))
+
+  -- tick m of its period
+  in-period : (m : ℕ) → (m ≡ m / T * T + m % T) × (m % T < T) × (suc (m / T) * T ≡ m / T * T + T)
+  in-period m = (sym (div-add-mod' m T), mod-lt m positive, suc-mul (m / T) T)
+
+  pub releases-zero : releases 0 T ≡ 0
+  releases-zero = releases-is 0 0 (omega arith) (omega (arith, zero-mul T))
+
+  pub releases-suc : (m : ℕ) → releases (suc m) T ≡ suc (m / T)
+  releases-suc m = releases-is (suc (m / T)) (suc m) (omega (arith, in-period m)) (omega (arith, in-period m))
+
+  -- at a whole number of periods the release of that tick is not among them
+  pub releases-at : (m : ℕ) → m % T ≡ 0 → releases m T ≡ m / T
+  releases-at m e = releases-is (m / T) m (omega (arith, in-period m)) (omega (arith, in-period m))
+
+  pub releases-between : (m : ℕ) → (m % T ≡ 0 → ⊥) → releases m T ≡ suc (m / T)
+  releases-between m ne = releases-is (suc (m / T)) m (omega (arith, in-period m)) (omega (arith, in-period m))
 
 -- ---- the work of the higher tasks
 

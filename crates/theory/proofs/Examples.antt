@@ -106,9 +106,9 @@ H-is = (refl, refl, refl)
 abbrev J : List Task
 J = task (3 ∷ 2 ∷ 1 ∷ 5 ∷ []) 10 ∷ []
 
-J-is : (start-frame (task-at J 0) ≡ 3) × (times J ≡ (some 3 ∷ some 2 ∷ some 1 ∷ some 5 ∷ []) ∷ [])
+J-is : (start-frame (task-at J 0) ≡ 3) × (verdict J ≡ holds) × (times J ≡ (some 3 ∷ some 2 ∷ some 1 ∷ some 5 ∷ []) ∷ [])
 unfolding analysis
-J-is = (refl, refl)
+J-is = (refl, refl, refl)
 
 abbrev K : List Task
 K = task (3 ∷ 1 ∷ 3 ∷ 2 ∷ []) 4 ∷ one 2 20 ∷ []
@@ -199,6 +199,11 @@ A-plays : (state-at A (worst-run A 2 0) 300 .lanes 2 .jobs ≡ job 1 0 1 ∷ [])
 unfolding runs
 A-plays = (refl, refl)
 
+-- in that of K's task 1, after 7 and not after 6: the higher task comes from its start frame 2
+K-plays : (state-at K (worst-run K 1 0) 7 .lanes 1 .jobs ≡ job 1 0 1 ∷ []) × (state-at K (worst-run K 1 0) 8 .lanes 1 .jobs ≡ job 1 0 0 ∷ [])
+unfolding runs
+K-plays = (refl, refl)
+
 -- ---- runs by a script
 
 -- a release at a tick, or a stretch that starts with a tick
@@ -240,23 +245,31 @@ locked-picks = refl
 short-locked : Run
 short-locked = script 5 (gives 0 1 2 ∷ locks 0 3 ∷ gives 1 0 2 ∷ [])
 
+short-locked-legal : Legal F short-locked
+unfolding scripts short-locked
+short-locked-legal = legal-is F short-locked .0 refl
+
 short-locked-picks : row (λ t. pick F (seen-at F short-locked t)) 0 5 ≡ some 1 ∷ some 1 ∷ some 0 ∷ some 0 ∷ none ∷ []
 unfolding scripts short-locked
 short-locked-picks = refl
 
 -- two jobs of one task pending at once: the older has the tick
-queued-set : List Task
+abbrev queued-set : List Task
 queued-set = one 3 4 ∷ one 1 2 ∷ []
+
+queued-set-admitted : Admitted queued-set
+unfolding analysis
+queued-set-admitted = admitted-is queued-set .0 refl
 
 queued : Run
 queued = script 4 (gives 0 0 3 ∷ gives 0 1 1 ∷ gives 2 1 1 ∷ [])
 
 queued-legal : Legal queued-set queued
-unfolding scripts queued queued-set
+unfolding scripts queued
 queued-legal = legal-is queued-set queued .0 refl
 
 queued-plays : (state-at queued-set queued 3 .lanes 1 .jobs ≡ job 0 0 1 ∷ job 2 0 1 ∷ []) × (state-at queued-set queued 4 .lanes 1 .jobs ≡ job 0 0 0 ∷ job 2 0 1 ∷ [])
-unfolding scripts queued queued-set
+unfolding scripts queued
 queued-plays = (refl, refl)
 
 -- a job of 0 work is complete at its release

@@ -21,6 +21,14 @@ unfoldable pub given : Option ℕ → ℕ
 given none = 0
 given (some w) = w
 
+pub given-none : given none ≡ 0
+unfolding given
+given-none = refl
+
+pub given-some : (w : ℕ) → given (some w) ≡ w
+unfolding given
+given-some w = refl
+
 pub total-append : (js : List Job) (r k w : ℕ) → total (js ++ (job r k w ∷ [])) ≡ total js + w
 unfolding total
 total-append [] r k w = rw (add-zero w, zero-add w)
@@ -33,11 +41,9 @@ oldest-none [] e = refl
 oldest-none (job r k zero ∷ js) e = rw (oldest-none js e) refl
 oldest-none (job r k (suc w) ∷ js) e = let z : ⊥ = omega arith in absurd z
 
-pub oldest-pending : (js : List Job) → 1 ≤ oldest-left js → 1 ≤ total js
-unfolding total oldest-left
-oldest-pending [] h = h
-oldest-pending (job r k zero ∷ js) h = omega (arith, oldest-pending js h)
-oldest-pending (job r k (suc w) ∷ js) h = omega arith
+-- work: some job is pending
+pub total-pending : (js : List Job) → 1 ≤ total js → 1 ≤ oldest-left js
+total-pending js h = let some-left : ¬ (oldest-left js ≡ 0) = λ e. omega (arith, oldest-none js e) in omega arith
 
 -- oldest first: the tick goes to the job before which all are complete, and to no other
 pub serve-oldest-first : (older : List Job) (r k w : ℕ) (younger : List Job) → total older ≡ 0 → serve (older ++ (job r k (suc w) ∷ younger)) ≡ older ++ (job r k w ∷ younger)
@@ -59,13 +65,13 @@ serve-total-le [] = le-refl 0
 serve-total-le (job r k zero ∷ js) = omega (arith, serve-total-le js)
 serve-total-le (job r k (suc w) ∷ js) = omega arith
 
--- the job that had the tick goes on if work of it is left
-pub serve-oldest : (js : List Job) → 1 ≤ pred (oldest-left js) → 1 ≤ oldest-left (serve js)
+-- the job that has the tick is one unit shorter, and where it is complete a later one is the oldest
+pub serve-oldest : (js : List Job) → pred (oldest-left js) ≤ oldest-left (serve js)
 unfolding oldest-left serve
-serve-oldest [] h = let z : ⊥ = omega arith in absurd z
-serve-oldest (job r k zero ∷ js) h = serve-oldest js h
-serve-oldest (job r k (suc zero) ∷ js) h = let z : ⊥ = omega arith in absurd z
-serve-oldest (job r k (suc (suc w)) ∷ js) h = omega arith
+serve-oldest [] = le-refl 0
+serve-oldest (job r k zero ∷ js) = serve-oldest js
+serve-oldest (job r k (suc zero) ∷ js) = omega arith
+serve-oldest (job r k (suc (suc w)) ∷ js) = le-refl _
 
 pub append-oldest : (js new : List Job) → 1 ≤ oldest-left js → oldest-left (js ++ new) ≡ oldest-left js
 unfolding oldest-left

@@ -13,6 +13,11 @@ pub mod Steps
 pub mod Arrivals
 pub mod Busy
 pub mod Soundness
+pub mod WorstReleases
+pub mod WorstTicks
+pub mod WorstFirstTick
+pub mod WorstLegal
+pub mod WorstExact
 pub mod Theorems
 pub mod Laws
 pub mod Examples

@@ -19,11 +19,7 @@ Monotone f = (t u : ℕ) → t ≤ u → f t ≤ f u
 module _ {f : ℕ → ℕ} {D : ℕ} where
   -- no two numbers are the response time
   response-le : {t u : ℕ} → IsResponse f D t → IsResponse f D u → t ≤ u
-  response-le {t} {u} r s = go (decLe t u)
-    where
-      go : Dec (t ≤ u) → t ≤ u
-      go (yes h) = h
-      go (no h) = let z : ⊥ = omega (arith, r .least u (s .positive) (omega arith), s .enough) in absurd z
+  response-le {t} {u} r s = let not-later : ¬ (u < t) = λ l. omega (arith, r .least u (s .positive) l, s .enough) in omega arith
 
   pub response-unique : {t u : ℕ} → IsResponse f D t → IsResponse f D u → t ≡ u
   response-unique r s = le-antisymm (response-le r s) (response-le s r)

@@ -1,10 +1,10 @@
 -- What `first`, `every` and `found` say: the first number of a row that passes a test, and that all of them do.
 use mathlib.Core.Bool.{Bool, true, false, true≢false, false≢true}
 use mathlib.Core.Logic.{_⊎_, inl, inr}
-use mathlib.Core.Option.{Option, none, some}
+use mathlib.Core.Option.{Option, none, some, Option·none-ne-some}
 use mathlib.Core.Path.{_≡_, refl, sym, _∙_}
 use Prim.Native.Nat.{ℕ, zero, suc, _+_, _≤_, _<_}
-use native.Mathlib.Decide.{ℕ-discrete, decLe}
+use native.Mathlib.Decide.{ℕ-discrete}
 use native.Mathlib.Nat.{le-refl, le-antisymm}
 use native.Mathlib.Omega.{arith}
 use Rattle.theory.specs.First.{first, every, found}
@@ -69,12 +69,12 @@ first-none a (suc n) test e u h k = go (bool-cases (test a)) (split-row a u h) (
   where
     go : (test a ≡ true) ⊎ (test a ≡ false) → (u ≡ a) ⊎ (suc a ≤ u)
         → (first (suc a) n test ≡ none → (v : ℕ) → suc a ≤ v → v < suc a + n → test v ≡ false) → test u ≡ false
-    go (inl y) s later = let z : _≡_ {A = ℕ} 0 1 = cc (first-yes a n test y) in let z : ⊥ = omega arith in absurd z
+    go (inl y) s later = absurd (Option·none-ne-some a (sym e ∙ first-yes a n test y))
     go (inr x) (inl q) later = rw q x
     go (inr x) (inr l) later = later (cc (first-no a n test x)) u l (omega arith)
 
 pub first-some : (a n : ℕ) (test : ℕ → Bool) {j : ℕ} → first a n test ≡ some j → IsFirst a n test j
-first-some a zero test {j} e = let z : _≡_ {A = ℕ} 0 1 = cc (first-zero a test) in let z : ⊥ = omega arith in absurd z
+first-some a zero test {j} e = absurd (Option·none-ne-some j (sym (first-zero a test) ∙ e))
 first-some a (suc n) test {j} e = go (bool-cases (test a)) (first-some (suc a) n test {j = j})
   where
     here : test a ≡ true → j ≡ a → IsFirst a (suc n) test j
@@ -91,11 +91,7 @@ first-some a (suc n) test {j} e = go (bool-cases (test a)) (first-some (suc a) n
         before-it f u h k (inr l) = f .earlier u l k
 
 first-not-less : {a n : ℕ} {test : ℕ → Bool} {i j : ℕ} → IsFirst a n test i → IsFirst a n test j → i ≤ j
-first-not-less {i} {j} f g = go (decLe i j)
-  where
-    go : Dec (i ≤ j) → i ≤ j
-    go (yes h) = h
-    go (no h) = absurd (true≢false (sym (g .passes) ∙ f .earlier j (g .from) (omega arith)))
+first-not-less {i} {j} f g = let not-later : ¬ (j < i) = λ l. true≢false (sym (g .passes) ∙ f .earlier j (g .from) l) in omega arith
 
 pub first-unique : {a n : ℕ} {test : ℕ → Bool} {i j : ℕ} → IsFirst a n test i → IsFirst a n test j → i ≡ j
 first-unique f g = le-antisymm (first-not-less f g) (first-not-less g f)
@@ -120,13 +116,12 @@ first-is-none a n test h = go (answer (first a n test))
 pub first-exists : (a n : ℕ) (test : ℕ → Bool) (u : ℕ) → a ≤ u → u < a + n → test u ≡ true → (j : ℕ) × (first a n test ≡ some j) × (j ≤ u)
 first-exists a n test u h k e = go (answer (first a n test))
   where
-    up-to : (j : ℕ) → IsFirst a n test j → Dec (j ≤ u) → j ≤ u
-    up-to j f (yes l) = l
-    up-to j f (no l) = absurd (true≢false (sym e ∙ f .earlier u h (omega arith)))
+    up-to : (j : ℕ) → IsFirst a n test j → j ≤ u
+    up-to j f = let not-later : ¬ (u < j) = λ l. true≢false (sym e ∙ f .earlier u h l) in omega arith
 
     go : Answer (first a n test) → (j : ℕ) × (first a n test ≡ some j) × (j ≤ u)
     go (nothing q) = absurd (true≢false (sym e ∙ first-none a n test q u h k))
-    go (it-is j q) = (j, q, up-to j (first-some a n test q) (decLe j u))
+    go (it-is j q) = (j, q, up-to j (first-some a n test q))
 
 -- ---- every
 

@@ -118,10 +118,13 @@ module _ (set : List Task) (run : Run) (legal : Legal set run) (p : ℕ) (in-set
 
 -- ---- with accumulative monotony: the demand bounds the work from every choice of frames
 
-pub period-positive : {t : Task} → WellFormed t → 1 ≤ t .period
+period-positive : {t : Task} → WellFormed t → 1 ≤ t .period
 period-positive {t} w =
     let first-in : 0 < frame-count t = w .has-frame in
     omega (arith, w .frame-positive 0 first-in, w .frame-in-deadline 0 first-in, w .deadline-in-period 0 first-in)
+
+pub period-of : (set : List Task) → Admitted set → (q : ℕ) → q < length set → 1 ≤ task-at set q .period
+period-of set admitted q h = period-positive (admitted .each-task q h .well-formed)
 
 work-above-most : (set : List Task) → Admitted set → (p : ℕ) → p < length set → (starts : ℕ → ℕ) (x : ℕ) → work-above set p starts x ≤ higher-work (higher set p) x
 unfolding work-above work-in
@@ -142,7 +145,7 @@ module _ (set : List Task) (admitted : Admitted set) (p : ℕ) (in-set : p < len
       }
 
   pub periods-above : (q : ℕ) → q < p → 1 ≤ task-at set q .period
-  periods-above q l = period-positive (admitted .each-task q (omega arith) .well-formed)
+  periods-above q l = period-of set admitted q (omega arith)
 
   -- the response times of a passing task are enough
   response-time : ℕ → ℕ

@@ -2,9 +2,9 @@
 use mathlib.Core.Bool.{Bool, true, false}
 use mathlib.Core.List.{List}
 use mathlib.Core.Option.{Option, none, some}
-use mathlib.Core.Path.{_≡_, refl, _∙_}
+use mathlib.Core.Path.{_≡_, refl, _∙_, ap}
 use Prim.Native.Nat.{ℕ, zero, suc, pred, _+_, _≤_, _<_}
-use native.Mathlib.Decide.{decLe, ℕ-discrete}
+use native.Mathlib.Decide.{decLe}
 use native.Mathlib.Nat.{le-refl, le-trans, not-suc-le-zero}
 use native.Mathlib.Omega.{arith}
 use borrow.Author.Tests.{le-leb, lt-leb, eq-eqb, ne-eqb}
@@ -13,10 +13,10 @@ use lib.ListN.{length}
 use Rattle.theory.specs.First.{first}
 use Rattle.theory.specs.Tasks.{Task, task-at}
 use Rattle.theory.specs.Analysis.{lower, blocking}
-use Rattle.theory.specs.Runs.{State, Run, release-lane, release, oldest-left, pending, pick, serve, serve-lane, stretch-now, stretch-after, tick, start-state, step, state-at, seen-at, longest-stretch, Legal}
+use Rattle.theory.specs.Runs.{Lane, State, Run, release-lane, release, oldest-left, pending, pick, serve, serve-lane, stretch-now, stretch-after, tick, start-state, step, state-at, seen-at, longest-stretch, Legal}
 use Rattle.theory.proofs.Search.{IsFirst, first-some, first-none, Answer, answer, nothing, it-is}
 use Rattle.theory.proofs.Places.{sum-below, sum-le, sum-eq, sum-some, sum-one-less}
-use Rattle.theory.proofs.Lanes.{total, oldest-none, serve-total, serve-oldest, pending-yes, pending-no, release-oldest, serve-lane-total}
+use Rattle.theory.proofs.Lanes.{total, total-pending, serve-total, serve-oldest, pending-yes, pending-no, release-oldest, serve-lane-total, serve-lane-next, serve-lane-free}
 use Rattle.theory.proofs.Blocking.{lower-lock-blocking}
 
 -- the work left of the job that would have the tick in a lane
@@ -103,6 +103,28 @@ pub seen-lane : (set : List Task) (run : Run) (t q : ℕ) → seen-at set run t 
 unfolding seen-at release
 seen-lane set run t q = refl
 
+module _ (set : List Task) (run : Run) (t q : ℕ) where
+  abbrev seen-here : Option ℕ → Lane
+  seen-here o = release-lane (task-at set q) t o (state-at set run t .lanes q)
+
+  -- a lane after a tick, from the lane before it
+  pub lane-after : {o : Option ℕ} → run .input t .release-of q ≡ o
+      → (b : Bool) × (state-at set run (suc t) .lanes q ≡ serve-lane b (release-lane (task-at set q) t o (state-at set run t .lanes q)))
+  lane-after e = let (b, step) = lane-step set run t q in (b, step ∙ ap (serve-lane b) (seen-lane set run t q ∙ ap seen-here e))
+
+  -- the frame of the next job and the first tick at which it may be released change with a release alone
+  pub next-after : {o : Option ℕ} → run .input t .release-of q ≡ o
+      → state-at set run (suc t) .lanes q .next ≡ release-lane (task-at set q) t o (state-at set run t .lanes q) .next
+  next-after e = let (b, after) = lane-after e in ap (λ l. l .next) after ∙ serve-lane-next b _
+
+  pub free-after : {o : Option ℕ} → run .input t .release-of q ≡ o
+      → state-at set run (suc t) .lanes q .free-from ≡ release-lane (task-at set q) t o (state-at set run t .lanes q) .free-from
+  free-after e = let (b, after) = lane-after e in ap (λ l. l .free-from) after ∙ serve-lane-free b _
+
+  -- a release leaves the job that may have the tick
+  pub seen-oldest : 1 ≤ oldest (state-at set run t) q → oldest (seen-at set run t) q ≡ oldest (state-at set run t) q
+  seen-oldest h = ap (λ l. oldest-left (l .jobs)) (seen-lane set run t q) ∙ release-oldest (task-at set q) t (run .input t .release-of q) (state-at set run t .lanes q) h
+
 pub state-step : (set : List Task) (run : Run) (t : ℕ) → state-at set run (suc t) ≡ tick (pick set (seen-at set run t)) (run .input t .stretch) (seen-at set run t)
 unfolding state-at seen-at step
 state-step set run t = refl
@@ -119,7 +141,7 @@ unfolding seen-at release
 held-seen set run t h =
     record {
       in-set = h .in-set;
-      job-pending = λ l. rw (release-oldest (task-at set (state-at set run t .owner)) t (run .input t .release-of (state-at set run t .owner)) (state-at set run t .lanes (state-at set run t .owner)) (h .job-pending l)) (h .job-pending l);
+      job-pending = λ l. rw (seen-oldest set run t (state-at set run t .owner) (h .job-pending l)) (h .job-pending l);
       below-lock = h .below-lock;
     }
 
@@ -127,7 +149,7 @@ held-served : (set : List Task) (s : State) (p new : ℕ) → p < length set →
 held-served set s p new l fits =
     record {
       in-set = λ _. rw (tick-owner p new s) l;
-      job-pending = λ h. rw (tick-owner p new s, tick-served p new s) (serve-oldest (s .lanes p .jobs) (goes-on h .0));
+      job-pending = λ h. rw (tick-owner p new s, tick-served p new s) (le-trans (goes-on h .0) (serve-oldest (s .lanes p .jobs)));
       below-lock = λ h. rw (tick-owner p new s, tick-to-come p new s) (le-trans (goes-on h .1) fits);
     }
   where
@@ -139,7 +161,7 @@ longest-free : (set : List Task) {n : ℕ} {o : Option ℕ} {p : ℕ} → n ≡ 
 unfolding longest-stretch
 longest-free set e q = rw (e, q)
 
-tick-idle : {o : Option ℕ} (new : ℕ) (s : State) → o ≡ none → tick o new s ≡ s
+pub tick-idle : {o : Option ℕ} (new : ℕ) (s : State) → o ≡ none → tick o new s ≡ s
 unfolding tick
 tick-idle new s q = rw q
 
@@ -202,14 +224,14 @@ stray-blocks set run legal p t h = go (decLe (state-at set run t .owner) p)
     go (no l) = omega (arith, stray-below p (state-at set run t) (omega arith), stretch-blocks set run legal t p h (omega arith))
 
 -- a tick given at or above place p takes one unit
-served-above : (p q new : ℕ) (s : State) → q ≤ p → 1 ≤ oldest s q → pending-work p s ≡ suc (pending-work p (tick (some q) new s))
+pub served-above : (p q new : ℕ) (s : State) → q ≤ p → 1 ≤ oldest s q → pending-work p s ≡ suc (pending-work p (tick (some q) new s))
 unfolding pending-work
 served-above p q new s h l =
     sum-one-less {n = suc p} {q = q} (omega arith) (rw (tick-served q new s) (serve-total (s .lanes q .jobs) l))
     (λ u _ ne. rw (tick-others q new s u ne))
 
 -- one given below takes none
-served-below : (p q new : ℕ) (s : State) → p < q → pending-work p s ≡ pending-work p (tick (some q) new s)
+pub served-below : (p q new : ℕ) (s : State) → p < q → pending-work p s ≡ pending-work p (tick (some q) new s)
 unfolding pending-work
 served-below p q new s h = sum-eq (suc p) (λ u l. rw (tick-others q new s u (λ e. omega arith)))
 
@@ -235,11 +257,7 @@ takes-below p m new s h e =
 -- where work is pending at or above place p, some lane there has a job that may have the tick
 busy-at : (p : ℕ) (s : State) → 1 ≤ pending-work p s → (u : ℕ) × (u ≤ p) × (1 ≤ oldest s u)
 unfolding pending-work
-busy-at p s h = let (u, l, k) = sum-some (suc p) (λ q. total (s .lanes q .jobs)) h in (u, omega arith, go u k (ℕ-discrete (oldest s u) 0))
-  where
-    go : (u : ℕ) → 1 ≤ total (s .lanes u .jobs) → Dec (oldest s u ≡ 0) → 1 ≤ oldest s u
-    go u k (yes e) = let z : ⊥ = omega (arith, oldest-none (s .lanes u .jobs) e) in absurd z
-    go u k (no ne) = omega arith
+busy-at p s h = let (u, l, k) = sum-some (suc p) (λ q. total (s .lanes q .jobs)) h in (u, omega arith, total-pending (s .lanes u .jobs) k)
 
 -- while work is pending at or above place p, each tick takes one unit of it or of a lower task's stretch, and no lower stretch begins
 pub tick-takes-one : (set : List Task) (p new : ℕ) (s : State) → p < length set → Held set s → 1 ≤ pending-work p s → Picked set s

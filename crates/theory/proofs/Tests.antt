@@ -2,7 +2,7 @@
 use mathlib.Core.Bool.{Bool, true, false, _&&_, So, and-eq-true-iff, true≢false}
 use mathlib.Core.List.{List}
 use mathlib.Core.Logic.{_↔_, Iff·trans}
-use mathlib.Core.Option.{Option, none, some}
+use mathlib.Core.Option.{Option, none, some, Option·none-ne-some}
 use mathlib.Core.Path.{_≡_, refl, sym, _∙_}
 use Prim.Native.Nat.{ℕ, _≤_, _<_}
 use native.Mathlib.Omega.{arith}
@@ -81,7 +81,7 @@ release-test task t l (some w) = leb (l .free-from) t && leb w (frame task (l .n
 release-is : (task : Task) (t : ℕ) (l : Lane) (o : Option ℕ)
     → (release-test task t l o ≡ true) ↔ ((w : ℕ) → o ≡ some w → (l .free-from ≤ t) × (w ≤ frame task (l .next)))
 unfolding release-test
-release-is task t l none = (λ _ w e. let z : _≡_ {A = ℕ} 0 1 = cc in let z : ⊥ = omega arith in absurd z, λ _. refl)
+release-is task t l none = (λ _ w e. absurd (Option·none-ne-some w e), λ _. refl)
 release-is task t l (some v) =
     Iff·trans (is-and (is-leb (l .free-from) t) (is-leb v (frame task (l .next))))
     (λ h w e. let same : v ≡ w = cc in (h .0, rw (← same) (h .1)), λ h. h v refl)

@@ -1,20 +1,19 @@
 -- Laws of a set: its frames' demands, passing, the verdict, the rounds.
-use mathlib.Core.Bool.{true, false, not, true≢false}
+use mathlib.Core.Bool.{Bool, true, false, not, true≢false}
 use mathlib.Core.List.{List}
 use mathlib.Core.Logic.{_↔_}
 use mathlib.Core.Option.{Option, none, some}
 use mathlib.Core.Path.{_≡_, refl, sym, _∙_, ap, subst₂}
 use Prim.Native.Nat.{ℕ, suc, _+_, _≤_, _<_}
-use native.Mathlib.Decide.{decLe}
 use native.Mathlib.Nat.{le-refl, le-antisymm}
 use native.Mathlib.Omega.{arith}
 use borrow.Author.Tests.{not-true, not-false}
 use lib.ListN.{length}
-use Rattle.theory.specs.First.{first}
+use Rattle.theory.specs.First.{first, found}
 use Rattle.theory.specs.Tasks.{Task, task-at, frame-count, frame, deadline-of, largest-frame}
 use Rattle.theory.specs.Analysis.{lower, blocking, blocker, higher, IsResponse, demand-of, response-of, rounds-of, passes, holds, missed, verdict}
-use Rattle.theory.proofs.Search.{IsFirst, first-some, first-none, found-some, found-none, some-found, Answer, answer, nothing, it-is}
-use Rattle.theory.proofs.Work.{frame-le-largest-frame}
+use Rattle.theory.proofs.Search.{IsFirst, first-some, first-none, first-exists, found-some, found-none, some-found, none-found, Answer, answer, nothing, it-is}
+use Rattle.theory.proofs.Work.{largest-is, frame-le-largest-frame}
 use Rattle.theory.proofs.Demand.{within-refl, demand-mono, demand-least}
 use Rattle.theory.proofs.Response.{Monotone, response-is, no-response-is, response-less, rounds-reach, rounds-pass}
 
@@ -61,6 +60,18 @@ module _ (set : List Task) (p : ℕ) where
   unfolding passes
   fails-largest e = found-none e
 
+  -- a task that does not pass has a first frame without a response time
+  pub fails-first : 1 ≤ frame-count (task-at set p) → passes set p ≡ false
+      → (k : ℕ) × (k < frame-count (task-at set p)) × (response-of set p k ≡ none) × ((j : ℕ) → j < k → (t : ℕ) × (response-of set p j ≡ some t))
+  fails-first h e =
+      let largest : largest-frame (task-at set p) < frame-count (task-at set p) = largest-is (task-at set p) h .largest-in in
+      let (k, q, _) = first-exists 0 (frame-count (task-at set p)) has-none (largest-frame (task-at set p)) (omega arith) (omega arith) (rw (none-found (fails-largest e))) in
+      let f : IsFirst 0 (frame-count (task-at set p)) has-none k = first-some 0 (frame-count (task-at set p)) has-none q in
+      (k, omega (arith, f .before), found-none (not-true _ (f .passes)), λ j l. found-some (not-false _ (f .earlier j (omega arith) l)))
+    where
+      has-none : ℕ → Bool
+      has-none k = not (found (response-of set p k))
+
   -- the rounds reach the response time; without one they pass the deadline
   module _ (k : ℕ) (positive : 1 ≤ frame (task-at set p) k) where
     pub rounds-of-reach : {t : ℕ} → response-of set p k ≡ some t → (n : ℕ) × (n ≤ suc (deadline-of (task-at set p) k)) × (rounds-of set p k n ≡ t) × (rounds-of set p k (suc n) ≡ t)
@@ -80,11 +91,12 @@ pub record IsMissed (set : List Task) (p : ℕ) (b : Option ℕ) : Type 0 where
   pub earlier-pass : (q : ℕ) → q < p → passes set q ≡ true
   pub named : b ≡ blocker set p
 
-data Outcome (set : List Task) : Type 0 where
+-- the answer is holds and all tasks pass, or it names the first that does not
+pub data Outcome (set : List Task) : Type 0 where
   all-pass : verdict set ≡ holds → ((p : ℕ) → p < length set → passes set p ≡ true) → Outcome set
   one-fails : (p : ℕ) → verdict set ≡ missed p (blocker set p) → IsMissed set p (blocker set p) → Outcome set
 
-outcome : (set : List Task) → Outcome set
+pub outcome : (set : List Task) → Outcome set
 unfolding verdict
 outcome set = go (answer (first 0 (length set) (λ p. not (passes set p))))
   where
@@ -112,11 +124,7 @@ verdict-holds set = (there (outcome set), back (outcome set))
     back (one-fails p e m) a = absurd (true≢false (sym (a p (m .in-set)) ∙ m .fails))
 
 missed-no-later : {set : List Task} {p q : ℕ} {b c : Option ℕ} → IsMissed set p b → IsMissed set q c → p ≤ q
-missed-no-later {p = p} {q = q} m n = go (decLe p q)
-  where
-    go : Dec (p ≤ q) → p ≤ q
-    go (yes h) = h
-    go (no h) = absurd (true≢false (sym (m .earlier-pass q (omega arith)) ∙ n .fails))
+missed-no-later {p = p} {q = q} m n = let not-later : ¬ (q < p) = λ l. true≢false (sym (m .earlier-pass q l) ∙ n .fails) in omega arith
 
 missed-unique : {set : List Task} {p q : ℕ} {b c : Option ℕ} → IsMissed set p b → IsMissed set q c → p ≡ q
 missed-unique m n = le-antisymm (missed-no-later m n) (missed-no-later n m)

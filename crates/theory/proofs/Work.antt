@@ -6,7 +6,7 @@ use mathlib.Core.Option.{some}
 use mathlib.Core.Path.{_≡_, refl, sym, _∙_, ap}
 use Prim.Native.Nat.{ℕ, zero, suc, _+_, _*_, _%_, _≤_, _<_}
 use native.Mathlib.Decide.{decLe}
-use native.Mathlib.Nat.{add-zero, add-suc, add-assoc, add-comm, zero-mul, le-refl, le-trans, le-antisymm, mod-mod, mod-lt, mod-add-mod, add-mod-right, mod-eq-of-lt, div-add-mod', le-max-left, le-max-right, max-eq-left, max-eq-right, max-zero, zero-add, le-dest, le-add-right, add-le-add, add-left-cancel}
+use native.Mathlib.Nat.{add-zero, add-suc, add-assoc, add-comm, zero-mul, le-refl, le-trans, le-antisymm, mod-mod, suc-mod, mod-lt, mod-add-mod, add-mod-right, mod-eq-of-lt, div-add-mod', le-max-left, le-max-right, max-eq-left, max-eq-right, max-zero, zero-add, le-dest, le-add-right, add-le-add, add-left-cancel}
 use native.Mathlib.Numerals.{add-one, one-add}
 use native.Mathlib.Omega.{arith}
 use borrow.Author.Tests.{leb-true, le-leb, eqb-true, eqb-false, eq-eqb}
@@ -31,6 +31,11 @@ module _ (t : Task) where
   pub next-frame-lt : (k : ℕ) → 1 ≤ frame-count t → next-frame t k < frame-count t
   unfolding next-frame
   next-frame-lt k h = mod-lt (suc k) h
+
+  -- the frame that follows the n-th after frame k
+  pub next-frame-after : (k n : ℕ) {f : ℕ} → f ≡ (k + n) % frame-count t → next-frame t f ≡ (k + suc n) % frame-count t
+  unfolding next-frame
+  next-frame-after k n e = ap (λ x. suc x % frame-count t) e ∙ sym (suc-mod (k + n) (frame-count t)) ∙ ap (λ x. x % frame-count t) (sym (add-suc k n))
 
   -- ---- the work of n jobs
 
@@ -202,11 +207,7 @@ module _ (t : Task) where
       less u ne = lt-of-le-ne (frame-le-largest u) ne
 
   largest-not-less : {k u : ℕ} → IsLargest k → IsLargest u → k ≤ u
-  largest-not-less {k} {u} i j = go (decLe k u)
-    where
-      go : Dec (k ≤ u) → k ≤ u
-      go (yes h) = h
-      go (no h) = let z : ⊥ = omega (arith, i .lowest u (omega arith), j .largest-time) in absurd z
+  largest-not-less {k} {u} i j = let not-later : ¬ (u < k) = λ l. omega (arith, i .lowest u l, j .largest-time) in omega arith
 
   pub largest-when : {k : ℕ} → IsLargest k → largest-frame t ≡ k
   largest-when i = let f : IsLargest (largest-frame t) = largest-is (omega (arith, i .largest-in)) in le-antisymm (largest-not-less f i) (largest-not-less i f)

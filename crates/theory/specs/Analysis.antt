@@ -16,7 +16,7 @@ lower set p = drop (suc p) set
 unfoldable pub largest-lock : List Task → ℕ
 largest-lock tasks = largest (map (λ t. t .lock) tasks)
 
--- Blocking of a task: the largest Q among tasks of lower priority, less 1; 0 if that Q is 0 or 1, or if there is no lower task.
+-- Blocking of a task: the largest Q among tasks of lower priority, less 1; 0 if that Q is 0 or 1, or if there is no lower task (0 less 1 is 0).
 unfoldable pub blocking : List Task → ℕ
 blocking below = largest-lock below - 1
 

@@ -139,7 +139,7 @@ pub record Legal (set : List Task) (run : Run) : Type 0 where
 
 -- ---- what a run shows of a job: the job of the task at place p that is released at tick r and has frame k
 
--- at time t the run has that much of the job's work left
+-- at time t the run has that much of the job's work left; releases of tick t are seen, so that a job shows from its release on
 pub record Left (set : List Task) (run : Run) (p r k t left : ℕ) : Type 0 where
   pub released : r < run .ticks
   pub reached : t ≤ run .ticks

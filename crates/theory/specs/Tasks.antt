@@ -61,7 +61,7 @@ qualifies t s = every 1 (frame-count t) (λ n. every 0 (frame-count t) (λ k. le
 unfoldable pub start-frame : Task → ℕ
 start-frame t = Option·getD (first 0 (frame-count t) (qualifies t)) 0
 
--- Well formed: every frame time ≤ D, and D ≤ T. (0 < C ≤ D ≤ T)
+-- Well formed: every frame time ≤ D, and D ≤ T. There is a frame, and each time is at least 1.
 pub record WellFormed (t : Task) : Type 0 where
   pub has-frame : 1 ≤ frame-count t
   pub frame-positive : (k : ℕ) → k < frame-count t → 1 ≤ frame t k
@@ -81,7 +81,7 @@ pub record AdmittedTask (t : Task) : Type 0 where
   pub lock-rule : t .lock ≤ largest (t .frames)
   pub monotonic : Monotonic t
 
--- a set of one or more such tasks (01's upper limits of numbers belong to the sheet)
+-- a set of one or more such tasks. Its policy is in the order of the list; 01's upper limits on numbers play no part here.
 pub record Admitted (set : List Task) : Type 0 where
   pub some-task : 1 ≤ length set
   pub each-task : (p : ℕ) → p < length set → AdmittedTask (task-at set p)
