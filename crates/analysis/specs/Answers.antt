@@ -37,16 +37,22 @@ unfoldable pub outcome-by : Answer → ℕ → List Task → Outcome
 outcome-by Admitted policy tasks = outcome-of policy tasks
 outcome-by (refused r) policy tasks = Refused r
 
--- the times in the room for sixteen tasks, 0 behind those of the set, 0 throughout where it is refused
-unfoldable pub all-times-by : Answer → ℕ → List Task → List ℕ
-all-times-by Admitted policy tasks = times-of policy tasks ++ replicate (most-frames * (most-tasks - length tasks)) 0
-all-times-by (refused r) policy tasks = replicate (most-frames * most-tasks) 0
+-- by value: the times in room for sixteen tasks, 0 behind those of the set; no task and 0 throughout where it is refused
+unfoldable pub analysis-by : Answer → ℕ → List Task → Analysis
+analysis-by Admitted policy tasks =
+    record {
+      outcome = outcome-of policy tasks;
+      «task_count» = length tasks;
+      times = times-of policy tasks ++ replicate (most-frames * (most-tasks - length tasks)) 0;
+    }
+analysis-by (refused r) policy tasks = record { outcome = Refused r; «task_count» = 0; times = replicate (most-frames * most-tasks) 0 }
 
--- a set by value
-unfoldable pub analysis : Sheet → Analysis
-analysis s =
-    let tasks = map task-in (records-of s) in
-    record { outcome = outcome-by (admission s) (s .policy) tasks; times = all-times-by (admission s) (s .policy) tasks }
+-- a set by value, and a sheet
+unfoldable pub set-analysis : Sheet → Analysis
+set-analysis s = analysis-by (admission s) (s .policy) (map task-in (records-of s))
+
+unfoldable pub sheet-analysis : List ℕ → Analysis
+sheet-analysis s = analysis-by (outcome (sheet-checks s)) (policy-of s) (tasks-of s)
 
 -- "12: lent room too small": "8n numbers for the analysis", last of all
 unfoldable pub room-check : ℕ → ℕ → Check

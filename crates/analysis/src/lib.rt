@@ -10,9 +10,10 @@ pub enum Outcome {
     Refused(Refusal),
 }
 
-// The outcome, and the response times: eight places for each task, in task-number order.
+// The outcome, how many tasks were analysed, and their response times: eight places for each, in task-number order.
 pub struct Analysis {
     pub outcome: Outcome,
+    pub task_count: u32,
     pub times: [u32; 128],
 }
 

@@ -12,7 +12,7 @@ use Rattle.sheet.specs.declared.Refusal.{Refusal}
 use Rattle.sheet.specs.declared.Refusal.the-variants.{NotMonotonic}
 use Rattle.order.specs.Order.{priority-order}
 use Rattle.order.specs.declared.Blocker.the-variants.{At, Nobody}
-use Rattle.analysis.specs.Answers.{analysis}
+use Rattle.analysis.specs.Answers.{set-analysis}
 use Rattle.analysis.specs.declared.Outcome.{Outcome}
 use Rattle.analysis.specs.declared.Outcome.the-variants.{Holds, Missed, Refused}
 
@@ -50,7 +50,8 @@ in-eights (ts ∷ rows) = ts ++ replicate (8 - length ts) 0 ++ in-eights rows
 
 unfoldable pub Agrees : Case → Answer → Type 0
 Agrees c (times outcome rows) =
-    analysis (sheet-with (c .policy) (c .tasks)) ≡ record { outcome = outcome; times = in-eights rows ++ replicate (128 - 8 * length rows) 0 }
+    set-analysis (sheet-with (c .policy) (c .tasks))
+    ≡ record { outcome = outcome; «task_count» = length rows; times = in-eights rows ++ replicate (128 - 8 * length rows) 0 }
 Agrees c (order numbers) = priority-order (c .policy) (c .tasks) ≡ numbers
 Agrees c (bytes front) = body (sheet-of (c .policy) (c .tasks)) ≡ front
 
@@ -59,7 +60,6 @@ unfoldable pub Each : List Case → Type 0
 Each [] = Unit {0}
 Each (c ∷ cs) = Agrees c (c .answer) × Each cs
 
--- B and D have two tasks each; G is F with Q 4, H with Q 1
 unfoldable pub table : List Case
 table =
     -- A. 40,100; 40,150; 100,350, policy 1: 40, 80, 300
