@@ -1,10 +1,13 @@
 -- What the code keeps of one task: whether it passes, and its eight places.
-use mathlib.Core.List.{List, map}
+use mathlib.Core.List.{List, [], _∷_, _++_, map}
 use mathlib.Core.Option.{Option, Option·getD}
-use Prim.Native.Nat.{ℕ}
+use Prim.Native.Nat.{ℕ, zero, suc, _-_}
+use lib.ListN.{length, replicate}
 use Rattle.theory.specs.First.{found}
 use Rattle.theory.specs.Tasks.{Task, largest}
 use Rattle.theory.specs.Analysis.{demand, response, passes}
+use mathlib.Core.Bool.{false}
+use Rattle.sheet.specs.Constants.{most-tasks, most-frames}
 use Rattle.sheet.specs.Tasks.{task-in}
 use Rattle.sheet.specs.declared.Task.{Task as Record}
 use Rattle.response.specs.Response.{above-in}
@@ -26,3 +29,11 @@ row-to above blocked r =
     let t = task-in r in
     let pass = found (time-to above blocked t (largest (t .frames))) in
     record { passes = pass; times = places-by pass (map (λ c. Option·getD (time-to above blocked t c) 0) (t .frames)) }
+
+-- of n places, from place p on, in room for sixteen
+unfoldable pub rows-from : List Task → ℕ → ℕ → List Row
+rows-from set p zero = []
+rows-from set p (suc n) = row-of set p ∷ rows-from set (suc p) n
+
+unfoldable pub rows-of : List Task → List Row
+rows-of set = rows-from set 0 (length set) ++ replicate (most-tasks - length set) (record { passes = false; times = replicate most-frames 0 })

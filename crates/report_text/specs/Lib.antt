@@ -1,0 +1,4 @@
+-- The report: its words and lines, and the whole text for a byte string.
+pub mod Words
+pub mod Report
+pub mod Examples
