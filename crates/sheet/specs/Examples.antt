@@ -1,16 +1,17 @@
 -- Sheets and lists worked by hand, computed from the definitions.
-use mathlib.Core.Bool.{true, xor}
-use mathlib.Core.List.{List, [], _∷_, map}
-use mathlib.Core.Option.{some}
+use mathlib.Core.Bool.{xor}
+use mathlib.Core.List.{List, [], _∷_}
 use mathlib.Core.Path.{_≡_, refl}
 use Prim.Native.Nat.{ℕ}
-use lib.ListN.{length, take, replicate}
+use lib.ListN.{length, replicate}
 use Rattle.bits.specs.Packed.{value, digits, bits-of, bytes-of}
 use Rattle.check_word.specs.Division.{added, polynomial, divided, remainder, started, check-word, seal, body, sealed}
 use Rattle.theory.specs.First.{first, every, found}
-use Rattle.theory.specs.Tasks.{Task, frame-count, frame, work, largest, qualifies}
+use Rattle.theory.specs.Tasks.{Task, frame-count, frame, work, largest, qualifies, start-frame}
+use Rattle.sheet.specs.Constants.{most-tasks, most-frames, greatest-time}
 use Rattle.sheet.specs.Fields.{packed, unpacked, total}
-use Rattle.sheet.specs.Tasks.{record-of, task-in, sheet-with, records-of}
+use Rattle.sheet.specs.Tasks.{record-of, task-in, sheet-with, records-of, blank-sheet}
+use Rattle.sheet.specs.Refusals.{number-of}
 use Rattle.sheet.specs.Layout.{header-in, records-in, frame-count-in, record-width, task-at-start, tasks-in}
 use Rattle.sheet.specs.Admission.{outcome, all, is-time, in-range, well-formed, lock-fits, monotonic, policy-check, task-count-check, frame-count-check, task-checks, frame-count-checks, list-checks, admission}
 use Rattle.sheet.specs.Reading.{some-set, layout-checks, sheet-checks, policy-of, tasks-of, reading-by, reading}
@@ -27,6 +28,21 @@ plain T frames = record { period = T; deadline = T; lock = 0; frames = frames }
 pub answer-to : List Task → Answer
 answer-to tasks = admission (sheet-with 0 tasks)
 
+-- what an example opens in order to compute
+tasks : Unit {0}
+unfolding first every found frame-count frame work largest qualifies start-frame all is-time in-range well-formed lock-fits monotonic task-checks outcome policy-check task-count-check frame-count-check
+tasks = tt
+
+lists : Unit {0}
+unfolding tasks answer-to admission list-checks frame-count-checks records-of sheet-with record-of task-in
+lists = tt
+
+sheets : Unit {0}
+unfolding tasks reading reading-by sheet-checks layout-checks policy-of tasks-of tasks-in task-at-start record-width frame-count-in records-in header-in some-set sheet-of whole-bytes header-bits tasks-bits task-bits packed unpacked total sealed seal body check-word remainder divided started added polynomial xor bytes-of bits-of digits value
+sheets = tt
+
+-- ---- worked by hand
+
 -- "M. Policy 0, T 10, frame 3: the bytes before the check word are 10 20 00 00 A0 00 0A 00 00 01 00 00 30."
 pub bytes-of-m :
     body (sheet-of 0 (plain 10 (3 ∷ []) ∷ []))
@@ -36,5 +52,62 @@ bytes-of-m = refl
 
 -- M is read as it was written
 pub reading-of-m : reading (sheet-of 0 (plain 10 (3 ∷ []) ∷ [])) ≡ record { answer = Admitted; sheet = sheet-with 0 (plain 10 (3 ∷ []) ∷ []) }
-unfolding reading reading-by sheet-checks layout-checks policy-of tasks-of tasks-in task-at-start record-width frame-count-in records-in header-in some-set outcome task-checks policy-check task-count-check frame-count-check in-range well-formed lock-fits monotonic all is-time first found qualifies every work frame frame-count largest sheet-of whole-bytes header-bits tasks-bits task-bits packed unpacked total sealed seal body check-word remainder divided started added polynomial xor bytes-of bits-of digits value
+unfolding sheets
 reading-of-m = refl
+
+-- "I. Frames 1,2,3 T 10: refusal 11.", of task 0, as a list and as a sheet
+abbrev i : List Task
+i = plain 10 (1 ∷ 2 ∷ 3 ∷ []) ∷ []
+
+pub answer-to-i : answer-to i ≡ Refused (NotMonotonic 0)
+unfolding lists
+answer-to-i = refl
+
+pub reading-of-i : reading (sheet-of 0 i) ≡ record { answer = Refused (NotMonotonic 0); sheet = blank-sheet }
+unfolding sheets
+reading-of-i = refl
+
+pub number-of-i : number-of (NotMonotonic 0) ≡ 11
+number-of-i = refl
+
+-- "J. Frames 3,2,1,5 T 10: start frame 3"
+pub start-of-j : start-frame (plain 10 (3 ∷ 2 ∷ 1 ∷ 5 ∷ [])) ≡ 3
+unfolding tasks
+start-of-j = refl
+
+-- "K. Policy 0: frames 3,1,3,2 T 4; frame 2 T 20: start frame 2"
+pub start-of-k : start-frame (plain 4 (3 ∷ 1 ∷ 3 ∷ 2 ∷ [])) ≡ 2
+unfolding tasks
+start-of-k = refl
+
+-- "The list of no task gives 6."
+pub answer-to-none : answer-to [] ≡ Refused TaskCount
+unfolding lists
+answer-to-none = refl
+
+-- "A task with D = T + 1 gives 9;"
+pub answer-to-late : answer-to (record { period = 10; deadline = 11; lock = 0; frames = 3 ∷ [] } ∷ []) ≡ Refused (IllFormed 0)
+unfolding lists
+answer-to-late = refl
+
+-- "with Q one above its largest frame (itself below 1,048,575), 10."
+pub answer-to-locked : answer-to (record { period = 10; deadline = 10; lock = 4; frames = 3 ∷ [] } ∷ []) ≡ Refused (Lock 0)
+unfolding lists
+answer-to-locked = refl
+
+-- the largest set: 16 tasks, 8 frames, every time the greatest
+abbrev largest-set : List Task
+largest-set = replicate most-tasks (record { period = greatest-time; deadline = greatest-time; lock = greatest-time; frames = replicate most-frames greatest-time })
+
+pub answer-to-largest : answer-to largest-set ≡ Admitted
+unfolding lists
+answer-to-largest = refl
+
+-- its sheet has 452 bytes
+pub size-of-largest : length (sheet-of 0 largest-set) ≡ 452
+unfolding sheets
+size-of-largest = refl
+
+pub reading-of-largest : reading (sheet-of 0 largest-set) ≡ record { answer = Admitted; sheet = sheet-with 0 largest-set }
+unfolding sheets
+reading-of-largest = refl

@@ -1,0 +1,178 @@
+-- What an admitted set and an admitted sheet have in common: a policy and tasks that a sheet carries.
+use mathlib.Core.Bool.{true, and-eq-true-iff}
+use mathlib.Core.List.{List, [], _∷_, _++_, map}
+use mathlib.Core.Path.{_≡_, refl, sym, ap, ap₂, _∙_}
+use Prim.Native.Nat.{ℕ, suc, _≤_}
+use native.Mathlib.Omega.{arith}
+use borrow.Author.Tests.{leb-true, ltb-false, le-ltb, eqb-true, not-false}
+use lib.Dec.{leb}
+use lib.ListN.{length, length-take, length-map}
+use Rattle.bits.specs.Packed.{bits-of}
+use Rattle.check_word.specs.Division.{body, sealed}
+use Rattle.theory.specs.Tasks.{Task}
+use Rattle.sheet.specs.Constants.{the-version, most-tasks, most-frames, deadline-monotonic, least-size, greatest-size}
+use Rattle.sheet.specs.Tasks.{task-in, record-of, records-of, sheet-with}
+use Rattle.sheet.specs.Layout.{header-in, records-in}
+use Rattle.sheet.specs.Admission.{outcome, policy-check, task-count-check, frame-count-check, task-checks, frame-count-checks, list-checks, admission}
+use Rattle.sheet.specs.Reading.{layout-checks, sheet-checks, policy-of, tasks-of, reading-by, reading}
+use Rattle.sheet.specs.declared.Task.{Task as Record}
+use Rattle.sheet.specs.declared.Sheet.{Sheet}
+use Rattle.sheet.specs.declared.Answer.{Answer}
+use Rattle.sheet.specs.declared.Answer.the-variants.{Admitted, Refused}
+use Rattle.sheet.proofs.Records.{tasks-with, records-with}
+use Rattle.sheet.proofs.Passed.{passed, no-check, both-passed, count-passes, count-passed}
+use Rattle.sheet.proofs.InFields.{InFields, Each, no-task, task-more, each-map, FewFrames, FramesCounted, tasks-in-fields}
+use Rattle.sheet.proofs.Checks.{admitted-first, passed-over}
+use Rattle.sheet.proofs.RecordBits.{LaidOut, layout-read, length-tasks-in}
+
+pub record Carried (policy : ℕ) (ts : List Task) : Type 0 where
+  pub policy-known : policy ≤ deadline-monotonic
+  pub some-task : 1 ≤ length ts
+  pub few-tasks : length ts ≤ most-tasks
+  pub counted : Each FramesCounted ts
+  pub formed : outcome (task-checks 0 ts) ≡ Admitted
+
+pub carried-fit : {policy : ℕ} {ts : List Task} → Carried policy ts → Each InFields ts
+carried-fit {ts} c = tasks-in-fields 0 ts (c .formed) (each-map (λ t h. h .1) (c .counted))
+
+-- ---- an admitted set
+
+few-by-checks : (i : ℕ) (rs : List Record) → outcome (frame-count-checks i rs) ≡ Admitted → Each FewFrames (map task-in rs)
+unfolding frame-count-checks frame-count-check task-in
+few-by-checks i [] e = no-task
+few-by-checks i (r ∷ rs) e =
+    let here = passed _ _ e in
+    let count = count-passed (r .«frame_count») most-frames (here .0) in
+    let few : FewFrames (task-in r) = rw (length-take (r .«frame_count») (r .frames)) (omega arith) in
+    task-more {t = task-in r} few (few-by-checks (suc i) rs (here .1))
+
+-- what the checks of a set found
+record Passes (s : Sheet) : Type 0 where
+  policy-known : s .policy ≤ deadline-monotonic
+  some-task : 1 ≤ s .«task_count»
+  few-tasks : s .«task_count» ≤ most-tasks
+  few-frames : Each FewFrames (map task-in (records-of s))
+  formed : outcome (task-checks 0 (map task-in (records-of s))) ≡ Admitted
+
+passes : (s : Sheet) → admission s ≡ Admitted → Passes s
+unfolding admission list-checks policy-check task-count-check
+passes s e =
+    let four = passed _ _ e in
+    let six = passed _ _ (four .1) in
+    let later = both-passed (frame-count-checks 0 (records-of s)) (task-checks 0 (map task-in (records-of s))) (six .1) in
+    let count = count-passed (s .«task_count») most-tasks (six .0) in
+    record {
+      policy-known = ltb-false deadline-monotonic (s .policy) (four .0);
+      some-task = count .0;
+      few-tasks = count .1;
+      few-frames = few-by-checks 0 (records-of s) (later .0);
+      formed = later .1;
+    }
+
+-- an admitted set has as many tasks as it counts
+pub count-in-use : (s : Sheet) → length (s .tasks) ≡ most-tasks → admission s ≡ Admitted → length (map task-in (records-of s)) ≡ s .«task_count»
+unfolding records-of
+count-in-use s room e =
+    let p : Passes s = passes s e in
+    length-map (records-of s) task-in ∙ length-take (s .«task_count») (s .tasks) ∙ omega arith
+
+pub by-admission : (s : Sheet) → length (s .tasks) ≡ most-tasks → admission s ≡ Admitted → Carried (s .policy) (map task-in (records-of s))
+by-admission s room e =
+    let p : Passes s = passes s e in
+    let n = count-in-use s room e in
+    let fit = tasks-in-fields 0 (map task-in (records-of s)) (p .formed) (p .few-frames) in
+    record {
+      policy-known = p .policy-known;
+      some-task = omega arith;
+      few-tasks = omega arith;
+      counted = each-map (λ t h. (h .some-frame, h .few-frames)) fit;
+      formed = p .formed;
+    }
+
+counts-pass : (i : ℕ) (ts : List Task) → Each FramesCounted ts → outcome (frame-count-checks i (map record-of ts)) ≡ Admitted
+unfolding frame-count-checks frame-count-check record-of
+counts-pass i [] no-task = no-check
+counts-pass i (t ∷ ts) (task-more h hs) =
+    passed-over _ _ _ (count-passes (length (t .frames)) most-frames (h .0) (h .1)) ∙ counts-pass (suc i) ts hs
+
+-- the answer to a known policy and 1 to 16 tasks with 1 to 8 frames each is that of 9, 10 and 11
+pub answer-of-tasks : (policy : ℕ) (ts : List Task) → policy ≤ deadline-monotonic → 1 ≤ length ts → length ts ≤ most-tasks → Each FramesCounted ts
+    → admission (sheet-with policy ts) ≡ outcome (task-checks 0 ts)
+unfolding admission list-checks policy-check task-count-check sheet-with
+answer-of-tasks policy ts known one few counted =
+    passed-over _ _ _ (le-ltb deadline-monotonic policy known)
+    ∙ passed-over _ _ _ (count-passes (length ts) most-tasks one few)
+    ∙ ap₂ (λ (rs : List Record) (us : List Task). outcome (frame-count-checks 0 rs ++ task-checks 0 us)) (records-with policy ts) (tasks-with policy ts)
+    ∙ admitted-first (frame-count-checks 0 (map record-of ts)) (task-checks 0 ts) (counts-pass 0 ts counted)
+
+-- what a sheet carries is an admitted set
+pub to-admission : {policy : ℕ} {ts : List Task} → Carried policy ts → admission (sheet-with policy ts) ≡ Admitted
+to-admission {policy} {ts} c = answer-of-tasks policy ts (c .policy-known) (c .some-task) (c .few-tasks) (c .counted) ∙ c .formed
+
+-- ---- an admitted sheet
+
+-- what the checks of a sheet found
+pub record Found (s : List ℕ) : Type 0 where
+  pub long-enough : least-size ≤ length s
+  pub short-enough : length s ≤ greatest-size
+  pub sealed-well : sealed s ≡ true
+  pub version-known : header-in (bits-of (body s)) .version ≡ the-version
+  pub policy-known : policy-of s ≤ deadline-monotonic
+  pub spare-zero : header-in (bits-of (body s)) .spare ≡ 0
+  pub some-task : 1 ≤ header-in (bits-of (body s)) .task-count
+  pub few-tasks : header-in (bits-of (body s)) .task-count ≤ most-tasks
+  pub layout : LaidOut (header-in (bits-of (body s)) .task-count) (records-in (bits-of (body s)))
+  pub formed : outcome (task-checks 0 (tasks-of s)) ≡ Admitted
+
+pub reading-answer : (s : List ℕ) → reading s .answer ≡ outcome (sheet-checks s)
+unfolding reading reading-by
+reading-answer s = go (outcome (sheet-checks s))
+  where
+    go : (a : Answer) → reading-by a s .answer ≡ a
+    go Admitted = refl
+    go (Refused r) = refl
+
+pub found : (s : List ℕ) → reading s .answer ≡ Admitted → Found s
+unfolding sheet-checks policy-check task-count-check policy-of tasks-of
+found s a =
+    let bits = bits-of (body s) in
+    let header = header-in bits in
+    let one = passed _ _ (sym (reading-answer s) ∙ a) in
+    let two = passed _ _ (one .1) in
+    let three = passed _ _ (two .1) in
+    let four = passed _ _ (three .1) in
+    let five = passed _ _ (four .1) in
+    let six = passed _ _ (five .1) in
+    let later = both-passed (layout-checks 0 (header .task-count) (records-in bits)) (task-checks 0 (tasks-of s)) (six .1) in
+    let size = and-eq-true-iff (leb least-size (length s)) (leb (length s) greatest-size) .0 (not-false _ (one .0)) in
+    let count = count-passed (header .task-count) most-tasks (six .0) in
+    record {
+      long-enough = leb-true least-size (length s) (size .0);
+      short-enough = leb-true (length s) greatest-size (size .1);
+      sealed-well = not-false (sealed s) (two .0);
+      version-known = eqb-true (header .version) the-version (not-false _ (three .0));
+      policy-known = ltb-false deadline-monotonic (header .policy) (four .0);
+      spare-zero = eqb-true (header .spare) 0 (not-false _ (five .0));
+      some-task = count .0;
+      few-tasks = count .1;
+      layout = layout-read 0 (header .task-count) (records-in bits) (later .0);
+      formed = later .1;
+    }
+
+pub by-reading : (s : List ℕ) → reading s .answer ≡ Admitted → Carried (policy-of s) (tasks-of s)
+unfolding tasks-of
+by-reading s a =
+    let f : Found s = found s a in
+    let n = length-tasks-in (header-in (bits-of (body s)) .task-count) (records-in (bits-of (body s))) in
+    record {
+      policy-known = f .policy-known;
+      some-task = rw n (f .some-task);
+      few-tasks = rw n (f .few-tasks);
+      counted = f .layout .counted;
+      formed = f .formed;
+    }
+
+-- an admitted sheet's reading is what it carries
+pub admitted-reading : (s : List ℕ) → reading s .answer ≡ Admitted → reading s ≡ record { answer = Admitted; sheet = sheet-with (policy-of s) (tasks-of s) }
+unfolding reading reading-by
+admitted-reading s a = ap (λ (x : Answer). reading-by x s) (sym (reading-answer s) ∙ a)

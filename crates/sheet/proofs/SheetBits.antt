@@ -1,0 +1,141 @@
+-- A whole sheet in bits, both ways: the sheet of tasks that pass is read as it was written, and an admitted byte string is header, records and fill of what it carries.
+use mathlib.Core.Bool.{Bool, true, false, not, _||_}
+use mathlib.Core.List.{List, _++_, append-assoc}
+use mathlib.Core.Path.{_≡_, sym, ap, ap₂, _∙_}
+use Prim.Native.Nat.{ℕ, _+_, _-_, _*_, _/_, _≤_, _<_}
+use native.Mathlib.Omega.{arith}
+use borrow.Author.Tests.{le-leb, le-ltb}
+use lib.Dec.{ltb, eqb}
+use lib.ListN.{length, replicate, length-append, length-replicate, take-append-drop}
+use lib.Seq.{length-take-le}
+use Rattle.bits.specs.Packed.{Bytes, bits-of, bytes-of}
+use Rattle.bits.proofs.Laws.{length-bits, bytes-bits, bytes-take, bytes-are-bytes}
+use Rattle.check_word.specs.Division.{seal, body, sealed}
+use Rattle.check_word.proofs.Sealing.{sealed-seal, body-seal, seal-body, bytes-seal}
+use Rattle.theory.specs.Tasks.{Task}
+use Rattle.sheet.specs.Constants.{the-version, most-tasks, deadline-monotonic, least-size, greatest-size}
+use Rattle.sheet.specs.Fields.{total, header-widths}
+use Rattle.sheet.specs.Tasks.{sheet-with}
+use Rattle.sheet.specs.Layout.{Header, header-in, records-in, tasks-in}
+use Rattle.sheet.specs.Admission.{outcome, policy-check, task-count-check, task-checks}
+use Rattle.sheet.specs.Reading.{layout-checks, sheet-checks, policy-of, tasks-of, reading}
+use Rattle.sheet.specs.Writing.{header-bits, tasks-bits, whole-bytes, sheet-of}
+use Rattle.sheet.specs.declared.Reading.{Reading}
+use Rattle.sheet.specs.declared.Answer.the-variants.{Admitted}
+use Rattle.sheet.proofs.Checks.{admitted-first, passed-over}
+use Rattle.sheet.proofs.Passed.{count-passes}
+use Rattle.sheet.proofs.RecordBits.{header-written, records-written, header-read, tasks-written, layout-written, length-tasks-in}
+use Rattle.sheet.proofs.Sizes.{fill-of, fill-short, bits-whole, size-between}
+use Rattle.sheet.proofs.Carried.{Carried, carried-fit, Found, reading-answer, admitted-reading}
+
+-- ---- from a set to its sheet and back
+
+-- a sheet's bits before the fill
+set-bits : ℕ → List Task → List Bool
+set-bits policy ts = header-bits policy (length ts) ++ tasks-bits ts
+
+module _ (policy : ℕ) (ts : List Task) (c : Carried policy ts) where
+  fill : ℕ
+  fill = fill-of (set-bits policy ts)
+
+  behind-header : List Bool
+  behind-header = tasks-bits ts ++ replicate fill false
+
+  body-bits : bits-of (body (sheet-of policy ts)) ≡ header-bits policy (length ts) ++ behind-header
+  unfolding sheet-of set-bits fill behind-header
+  body-bits =
+      ap bits-of (body-seal (whole-bytes (set-bits policy ts)))
+      ∙ bits-whole (set-bits policy ts)
+      ∙ append-assoc (header-bits policy (length ts)) (tasks-bits ts) (replicate fill false)
+
+  the-header : Header
+  the-header = record { version = the-version; policy = policy; task-count = length ts; spare = 0 }
+
+  header-is : header-in (bits-of (body (sheet-of policy ts))) ≡ the-header
+  unfolding the-header
+  header-is = ap header-in body-bits ∙ header-written policy (length ts) behind-header (omega (arith, c .policy-known)) (omega (arith, c .few-tasks))
+
+  records-are : records-in (bits-of (body (sheet-of policy ts))) ≡ behind-header
+  records-are = ap records-in body-bits ∙ records-written policy (length ts) behind-header
+
+  policy-is : policy-of (sheet-of policy ts) ≡ policy
+  unfolding policy-of the-header
+  policy-is = ap (λ (h : Header). h .policy) header-is
+
+  tasks-are : tasks-of (sheet-of policy ts) ≡ ts
+  unfolding tasks-of the-header behind-header
+  tasks-are = ap₂ (λ (h : Header) (bs : List Bool). tasks-in (h .task-count) bs) header-is records-are ∙ tasks-written ts (replicate fill false) (carried-fit c)
+
+  is-sealed : sealed (sheet-of policy ts) ≡ true
+  unfolding sheet-of set-bits
+  is-sealed = sealed-seal (whole-bytes (set-bits policy ts))
+
+  checks-admit : outcome (sheet-checks (sheet-of policy ts)) ≡ Admitted
+  unfolding sheet-checks policy-check task-count-check the-header behind-header fill
+  checks-admit =
+      let s = sheet-of policy ts in
+      let size = size-between policy ts (c .some-task) (c .few-tasks) (c .counted) in
+      passed-over _ _ _ (rw (le-leb least-size (length s) (size .0), le-leb (length s) greatest-size (size .1)))
+      ∙ passed-over _ _ _ (ap not is-sealed)
+      ∙ passed-over _ _ _ (ap (λ (h : Header). not (eqb (h .version) the-version)) header-is)
+      ∙ passed-over _ _ _ (ap (λ (h : Header). ltb deadline-monotonic (h .policy)) header-is ∙ le-ltb deadline-monotonic policy (c .policy-known))
+      ∙ passed-over _ _ _ (ap (λ (h : Header). not (eqb (h .spare) 0)) header-is)
+      ∙ passed-over _ _ _
+      (ap (λ (h : Header). eqb (h .task-count) 0 || ltb most-tasks (h .task-count)) header-is
+      ∙ count-passes (length ts) most-tasks (c .some-task) (c .few-tasks))
+      ∙ ap₂ (λ (h : Header) (bs : List Bool). outcome (layout-checks 0 (h .task-count) bs ++ task-checks 0 (tasks-in (h .task-count) bs))) header-is records-are
+      ∙ admitted-first (layout-checks 0 (length ts) behind-header) (task-checks 0 (tasks-in (length ts) behind-header))
+      (layout-written 0 ts fill (carried-fit c) (fill-short (set-bits policy ts)))
+      ∙ ap (λ (us : List Task). outcome (task-checks 0 us)) (tasks-written ts (replicate fill false) (carried-fit c))
+      ∙ c .formed
+
+  -- A sheet of 1 to 16 tasks that pass every check is read as it was written.
+  pub sheet-is-read : reading (sheet-of policy ts) ≡ record { answer = Admitted; sheet = sheet-with policy ts }
+  sheet-is-read =
+      admitted-reading (sheet-of policy ts) (reading-answer (sheet-of policy ts) ∙ checks-admit)
+      ∙ ap₂ (λ (p : ℕ) (us : List Task). let r : Reading = record { answer = Admitted; sheet = sheet-with p us } in r) policy-is tasks-are
+
+-- ---- from a sheet to its set and back
+
+-- bits with fewer than eight zeros behind them that fill bytes are those bytes' whole
+whole-of : (b : List ℕ) (bits : List Bool) (n : ℕ) → Bytes b → n < 8 → bits-of b ≡ bits ++ replicate n false → whole-bytes bits ≡ b
+unfolding whole-bytes
+whole-of b bits n h l e =
+    let total-length : length bits + n ≡ 8 * length b =
+    sym (length-append bits (replicate n false) ∙ ap (λ (k : ℕ). length bits + k) (length-replicate n false)) ∙ sym (ap length e) ∙ length-bits b in
+    let bytes : (length bits + 7) / 8 ≡ length b = omega arith in
+    let zeros : 8 * ((length bits + 7) / 8) - length bits ≡ n = omega arith in
+    ap₂ (λ (k m : ℕ). bytes-of k (bits ++ replicate m false)) bytes zeros
+    ∙ ap (bytes-of (length b)) (sym e)
+    ∙ bytes-bits b h
+
+header-there : (s : List ℕ) → Found s → total header-widths ≤ length (bits-of (body s))
+unfolding body total
+header-there s f = rw (length-bits (body s), length-take-le (length s - 2) s (omega arith)) (omega (arith, f .long-enough))
+
+-- the bits of a sheet whose checks pass: header and task records of what it carries, and the fill
+carried-bits : (s : List ℕ) (f : Found s) → bits-of (body s) ≡ set-bits (policy-of s) (tasks-of s) ++ replicate (f .layout .fill) false
+unfolding set-bits policy-of tasks-of records-in total
+carried-bits s f =
+    let bits = bits-of (body s) in
+    let n = header-in bits .task-count in
+    let ts = tasks-in n (records-in bits) in
+    sym (take-append-drop (total header-widths) bits)
+    ∙ ap₂ _++_
+    (sym (header-read bits (header-there s f) (f .version-known) (f .spare-zero))
+    ∙ ap (header-bits (header-in bits .policy)) (sym (length-tasks-in n (records-in bits))))
+    (f .layout .bits-are)
+    ∙ sym (append-assoc (header-bits (header-in bits .policy) (length ts)) (tasks-bits ts) (replicate (f .layout .fill) false))
+
+-- an admitted byte string is the sheet of what it carries
+pub sheet-of-carried : (s : List ℕ) → Bytes s → Found s → sheet-of (policy-of s) (tasks-of s) ≡ s
+unfolding sheet-of set-bits body
+sheet-of-carried s h f =
+    ap seal
+    (whole-of (body s) (set-bits (policy-of s) (tasks-of s)) (f .layout .fill) (bytes-take (length s - 2) s h) (f .layout .short) (carried-bits s f))
+    ∙ seal-body s h (f .sealed-well)
+
+-- a sheet is a byte string
+pub sheet-is-bytes : (policy : ℕ) (ts : List Task) → Bytes (sheet-of policy ts)
+unfolding sheet-of whole-bytes
+sheet-is-bytes policy ts = bytes-seal (whole-bytes (header-bits policy (length ts) ++ tasks-bits ts)) (bytes-are-bytes _ _)

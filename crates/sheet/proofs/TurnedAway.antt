@@ -1,0 +1,85 @@
+-- 01, below the worked sets: "The list of no task gives 6. A task with D = T + 1 gives 9; with Q one above its largest frame (itself below 1,048,575), 10." Of every such list, whichever task it is.
+use mathlib.Core.Bool.{Bool, true, false, not, _&&_, and-eq-true-iff, and-false}
+use mathlib.Core.List.{List, [], _∷_, _++_}
+use mathlib.Core.Path.{_≡_, refl, sym, ap, _∙_}
+use Prim.Native.Nat.{ℕ, suc, _+_, _≤_, _<_}
+use native.Mathlib.Nat.{zero-add, add-zero}
+use native.Mathlib.Omega.{arith}
+use borrow.Author.Tests.{le-leb, lt-leb, le-ltb}
+use lib.Dec.{leb}
+use lib.ListN.{length, length-append}
+use Rattle.theory.specs.Tasks.{Task, largest}
+use Rattle.sheet.specs.Constants.{most-tasks, greatest-time, deadline-monotonic}
+use Rattle.sheet.specs.Tasks.{sheet-with}
+use Rattle.sheet.specs.Admission.{Check, _⇒_, outcome, all, in-range, well-formed, lock-fits, monotonic, policy-check, task-count-check, list-checks, task-checks, admission}
+use Rattle.sheet.specs.declared.Answer.the-variants.{Admitted, Refused}
+use Rattle.sheet.specs.declared.Refusal.the-variants.{TaskCount, IllFormed, Lock, NotMonotonic}
+use Rattle.sheet.proofs.Checks.{applies, admitted-first, passed-over}
+use Rattle.sheet.proofs.InFields.{Each, FramesCounted, Ranged, range-of}
+use Rattle.sheet.proofs.Carried.{answer-of-tasks}
+
+-- "The list of no task gives 6."
+pub no-task-is-6 : (policy : ℕ) → policy ≤ deadline-monotonic → admission (sheet-with policy []) ≡ Refused TaskCount
+unfolding admission list-checks policy-check task-count-check sheet-with
+no-task-is-6 policy known = passed-over _ _ _ (le-ltb deadline-monotonic policy known) ∙ applies _ TaskCount _ refl
+
+-- the checks of tasks behind others
+checks-behind : (i : ℕ) (us ts : List Task) → task-checks i (us ++ ts) ≡ task-checks i us ++ task-checks (i + length us) ts
+unfolding task-checks
+checks-behind i [] ts = ap (λ (n : ℕ). task-checks n ts) (sym (add-zero i))
+checks-behind i (u ∷ us) ts =
+    ap (λ (cs : List Check). first-checks ++ cs) (checks-behind (suc i) us ts ∙ ap (λ (n : ℕ). task-checks (suc i) us ++ task-checks n ts) (omega arith))
+  where
+    first-checks : List Check
+    first-checks = (not (in-range u && well-formed u) ⇒ IllFormed i) ∷ (not (lock-fits u) ⇒ Lock i) ∷ (not (monotonic u) ⇒ NotMonotonic i) ∷ []
+
+-- a list in which task number `length us` is t: policy and counts are in order, and the tasks before t pass
+pub record Reaches (policy : ℕ) (us : List Task) (t : Task) (vs : List Task) : Type 0 where
+  pub policy-known : policy ≤ deadline-monotonic
+  pub few-tasks : length (us ++ t ∷ vs) ≤ most-tasks
+  pub counted : Each FramesCounted (us ++ t ∷ vs)
+  pub before : outcome (task-checks 0 us) ≡ Admitted
+
+reached : (policy : ℕ) (us : List Task) (t : Task) (vs : List Task) → Reaches policy us t vs
+    → admission (sheet-with policy (us ++ t ∷ vs)) ≡ outcome (task-checks (length us) (t ∷ vs))
+reached policy us t vs r =
+    answer-of-tasks policy (us ++ t ∷ vs) (r .policy-known) (rw (length-append us (t ∷ vs)) (omega arith)) (r .few-tasks) (r .counted)
+    ∙ ap outcome (checks-behind 0 us (t ∷ vs))
+    ∙ admitted-first (task-checks 0 us) (task-checks (0 + length us) (t ∷ vs)) (r .before)
+    ∙ ap (λ (n : ℕ). outcome (task-checks n (t ∷ vs))) (zero-add (length us))
+
+late : (t : Task) → t .deadline ≡ t .period + 1 → well-formed t ≡ false
+unfolding well-formed
+late t e =
+    ap (λ (b : Bool). all (λ c. leb c (t .deadline)) (t .frames) && b) (lt-leb (t .deadline) (t .period) (omega arith))
+    ∙ and-false (all (λ c. leb c (t .deadline)) (t .frames))
+
+-- "A task with D = T + 1 gives 9;"
+pub late-deadline-is-9 : (policy : ℕ) (us : List Task) (t : Task) (vs : List Task) → Reaches policy us t vs → t .deadline ≡ t .period + 1
+    → admission (sheet-with policy (us ++ t ∷ vs)) ≡ Refused (IllFormed (length us))
+unfolding task-checks
+late-deadline-is-9 policy us t vs r e =
+    reached policy us t vs r
+    ∙ applies (not (in-range t && well-formed t)) (IllFormed (length us)) _
+    (ap not (ap (λ (b : Bool). in-range t && b) (late t e) ∙ and-false (in-range t)))
+
+-- the task with another lock
+abbrev pub with-lock : Task → ℕ → Task
+with-lock t q = record { period = t .period; deadline = t .deadline; lock = q; frames = t .frames }
+
+lock-in-range : (t : Task) (q : ℕ) → in-range t ≡ true → q ≤ greatest-time → in-range (with-lock t q) ≡ true
+lock-in-range t q e h =
+    let r : Ranged t = range-of t .0 e in
+    range-of (with-lock t q) .1
+    (record { period-time = r .period-time; deadline-time = r .deadline-time; lock-time = le-leb q greatest-time h; frame-times = r .frame-times })
+
+-- "with Q one above its largest frame (itself below 1,048,575), 10.", of a task that is in range and well formed
+pub lock-above-largest-is-10 : (policy : ℕ) (us : List Task) (t : Task) (vs : List Task) → Reaches policy us (with-lock t (largest (t .frames) + 1)) vs
+    → in-range t ≡ true → well-formed t ≡ true → largest (t .frames) < greatest-time
+    → admission (sheet-with policy (us ++ with-lock t (largest (t .frames) + 1) ∷ vs)) ≡ Refused (Lock (length us))
+unfolding task-checks well-formed lock-fits
+lock-above-largest-is-10 policy us t vs r e f h =
+    let q = largest (t .frames) + 1 in
+    reached policy us (with-lock t q) vs r
+    ∙ passed-over _ _ _ (ap not (and-eq-true-iff (in-range (with-lock t q)) (well-formed t) .1 (lock-in-range t q e (omega arith), f)))
+    ∙ applies (not (lock-fits (with-lock t q))) (Lock (length us)) _ (ap not (lt-leb q (largest (t .frames)) (omega arith)))
