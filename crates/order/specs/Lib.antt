@@ -1,3 +1,5 @@
 -- Priority order by policy, and what stands below a task.
 pub mod Order
 pub mod Ordered
+pub mod Keys
+pub mod Below

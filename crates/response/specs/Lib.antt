@@ -1,2 +1,3 @@
--- The response time to given tasks above, by the definitions of the theory.
+-- The response time to given tasks above, by the definitions of the theory; and how the code counts their jobs.
 pub mod Response
+pub mod Counting

@@ -1,6 +1,11 @@
 // The completion-time equation: the least time at which blocking, a frame and the work of the tasks above are done.
 ghost use mathlib.Core.Path.{_≡_};
-ghost use Rattle.response.specs.Response.{response-to};
+ghost use Prim.Native.Nat.{suc, _%_, _<_, min, max};
+ghost use lib.ListN.{length};
+ghost use Rattle.sheet.specs.Constants.{most-tasks, most-frames};
+ghost use Rattle.response.specs.Response.{higher-in, response-to};
+ghost use Rattle.response.specs.Counting.{nothing-counted, Begun, Ready, Advanced};
+use sheet::Sheet;
 use sheet::Task;
 
 // A higher task and the frame from which its work is counted.
@@ -19,4 +24,170 @@ pub struct Above {
 pub enum Response {
     At(u32),
     Never,
+}
+
+// How far the jobs of a higher task are counted: those released before `until`; the next one has frame `next`.
+struct Counted {
+    until: u64,
+    next: usize,
+}
+
+// A count that has gone on, and the total of all work counted.
+struct Step {
+    counted: Counted,
+    total: u64,
+}
+
+// Past every time that a deadline can be: a task with no work has no job to count.
+const IDLE: u64 = 4_294_967_296;
+
+// Sums of times are held in 64 bits.
+fn wide(x: u32) -> u64
+    ensures { λ r. ⌜ (r ≡ x) × (r < 4294967296) ⌝ }
+{
+    x as u64
+}
+
+// How many of a record's frames are in use.
+fn frames_in(count: u32, frames: [u32; 8]) -> usize
+    ensures { λ r. ⌜ (r ≡ min count most-frames) × (length frames ≡ most-frames) ⌝ }
+{
+    if count < Sheet::MOST_FRAMES {
+        return count as usize;
+    }
+    Sheet::MOST_FRAMES as usize
+}
+
+// How many of the tasks above there are.
+fn tasks_in(count: u32, tasks: [Higher; 16]) -> usize
+    ensures { λ r. ⌜ (r ≡ min count most-tasks) × (length tasks ≡ most-tasks) ⌝ }
+{
+    if count < Sheet::MOST_TASKS {
+        return count as usize;
+    }
+    Sheet::MOST_TASKS as usize
+}
+
+// The frame after a frame, going round.
+fn next_frame(k: usize, count: usize) -> usize
+    requires { ⌜ k < count ⌝ }
+    ensures { λ r. ⌜ r ≡ suc k % count ⌝ }
+{
+    let next = k + 1;
+    if next == count {
+        return 0;
+    }
+    next
+}
+
+// Times are counted from 1.
+fn at_least_one(t: u64) -> u64
+    ensures { λ r. ⌜ r ≡ max 1 t ⌝ }
+{
+    if t == 0 {
+        return 1;
+    }
+    t
+}
+
+// No job of a higher task counted. One with no period or no frame has no work.
+fn begin(h: Higher) -> Counted
+    ensures { λ r. ⌜ r ≡ nothing-counted (higher-in h) ⌝ }
+{
+    let idle = Counted {
+        until: IDLE,
+        next: 0,
+    };
+    let task = h.task;
+    let frames = task.frames;
+    let count = frames_in(task.frame_count, frames);
+    if task.period == 0 {
+        return idle;
+    }
+    if count == 0 {
+        return idle;
+    }
+    let start = h.start as usize;
+    let next = start % count;
+    Counted { until: 0, next }
+}
+
+// The same for all tasks above.
+fn begin_all(above: Above) -> [Counted; 16]
+    ensures { λ r. ⌜ Begun (above .tasks) (min (above .count) most-tasks) r ⌝ }
+{
+    let tasks = above.tasks;
+    let count = tasks_in(above.count, tasks);
+    let idle = Counted {
+        until: IDLE,
+        next: 0,
+    };
+    let mut counted = [idle; 16];
+    for i in 0..count {
+        let h = tasks[i];
+        let c = begin(h);
+        counted[i] = c;
+    }
+    counted
+}
+
+// Counts the jobs of a higher task that are released before x, as long as the total is within the deadline.
+fn advance(h: Higher, from: Counted, total: u64, x: u64, deadline: u64) -> Step
+    requires { ⌜ Ready (higher-in h) from total x deadline ⌝ }
+    ensures { λ r. ⌜ Advanced (higher-in h) from total x deadline r ⌝ }
+{
+    let task = h.task;
+    let frames = task.frames;
+    let period = wide(task.period);
+    let count = frames_in(task.frame_count, frames);
+    let mut until = from.until;
+    let mut next = from.next;
+    let mut sum = total;
+    while until < x {
+        sum += wide(frames[next]);
+        if deadline < sum {
+            break;
+        }
+        next = next_frame(next, count);
+        until += period;
+    }
+    Step {
+        counted: Counted { until, next },
+        total: sum,
+    }
+}
+
+// The least time from 1 to the deadline whose demand is no more than it. A round replaces the time by the demand at it; what was
+// counted for one round is kept for the next, since a later time has no fewer jobs.
+pub fn respond(above: Above, blocked: u32, own: u32, deadline: u32) -> Response
+    ensures { λ r. ⌜ r ≡ response-to above blocked own deadline ⌝ }
+{
+    let limit = wide(deadline);
+    let count = tasks_in(above.count, above.tasks);
+    let mut counted = begin_all(above);
+    let mut total = wide(blocked) + wide(own);
+    let mut x = at_least_one(total);
+    while x <= limit {
+        let mut i = 0;
+        while i < count {
+            let c = counted[i];
+            if c.until < x {
+                let h = above.tasks[i];
+                let step = advance(h, c, total, x, limit);
+                total = step.total;
+                if limit < total {
+                    return Response::Never;
+                }
+                let now = step.counted;
+                counted[i] = now;
+            }
+            i += 1;
+        }
+        if total <= x {
+            let time = x as u32;
+            return Response::At(time);
+        }
+        x = total;
+    }
+    Response::Never
 }

@@ -1,5 +1,7 @@
 // The sheet: its constants, stated once, the task record, and the refusals by number.
 ghost use mathlib.Core.Path.{_≡_};
+ghost use Prim.Native.Nat.{min};
+ghost use lib.ListN.{length};
 ghost use Rattle.sheet.specs.Pairs.{the-widths, the-limits, the-policies};
 ghost use Rattle.sheet.specs.Tasks.{blank-record, blank-sheet};
 ghost use Rattle.sheet.specs.Refusals.{number-of, task-of-refusal};
@@ -140,6 +142,26 @@ impl Task {
             frames: [0; 8],
         }
     }
+}
+
+// How many of a record's frames are in use: no more than there are places.
+pub fn frames_in(count: u32, frames: [u32; 8]) -> usize
+    ensures { λ r. ⌜ (r ≡ min count 8) × (length frames ≡ 8) ⌝ }
+{
+    if count < Sheet::MOST_FRAMES {
+        return count as usize;
+    }
+    Sheet::MOST_FRAMES as usize
+}
+
+// How many of a set's records are in use.
+pub fn tasks_in(count: u32, tasks: [Task; 16]) -> usize
+    ensures { λ r. ⌜ (r ≡ min count 16) × (length tasks ≡ 16) ⌝ }
+{
+    if count < Sheet::MOST_TASKS {
+        return count as usize;
+    }
+    Sheet::MOST_TASKS as usize
 }
 
 // What is turned away, in the order of the numbers 1 to 12; a task number where the number belongs to a task.

@@ -1,0 +1,170 @@
+-- The answers to a task, to a row of tasks and to a list, check by check.
+use mathlib.Core.Bool.{true, false, not, _&&_, _||_}
+use mathlib.Core.List.{List, [], _∷_, _++_, map}
+use mathlib.Core.Path.{_≡_, refl, sym, ap, _∙_}
+use Prim.Native.Nat.{ℕ, suc, _+_, _≤_, _<_}
+use native.Mathlib.Numerals.{add-one}
+use borrow.Author.Tests.{lt-ltb, le-ltb, eq-eqb, ne-eqb}
+use lib.Dec.{ltb, eqb}
+use lib.ListN.{length, getD, take}
+use Rattle.theory.specs.Tasks.{Task}
+use Rattle.theory.proofs.Search.{some-found, none-found}
+use Rattle.sheet.specs.Constants.{most-tasks, most-frames, deadline-monotonic}
+use Rattle.sheet.specs.Tasks.{task-in, records-of}
+use Rattle.sheet.specs.Admission.{_⇒_, outcome, in-range, well-formed, lock-fits, monotonic, policy-check, task-count-check, frame-count-check, task-checks, frame-count-checks, list-checks, admission}
+use Rattle.sheet.specs.declared.Task.{Task as Record}
+use Rattle.sheet.specs.declared.Sheet.{Sheet}
+use Rattle.sheet.specs.declared.Answer.{Answer}
+use Rattle.sheet.specs.declared.Answer.the-variants.{Admitted, Refused}
+use Rattle.sheet.specs.declared.Refusal.{Refusal}
+use Rattle.sheet.specs.declared.Refusal.the-variants.{Policy, TaskCount, FrameCount, IllFormed, Lock, NotMonotonic}
+use Rattle.sheet.proofs.Checks.{applies, passed-over, admitted-first, refused-first}
+use Rattle.admission.specs.declared.Start.the-variants.{At, Nowhere}
+use Rattle.admission.specs.Start.{start-of}
+use Rattle.admission.proofs.Starts.{found-at, found-nowhere}
+use Rattle.admission.proofs.Remaining.{remaining, all-remain, one-remains, none-remain}
+
+-- ---- a count, "0 or over" the most
+
+module _ (n most : ℕ) where
+  zero-out : n ≡ 0 → (eqb n 0 || ltb most n) ≡ true
+  zero-out z = rw (eq-eqb n 0 z)
+
+  module _ (not-zero : n ≡ 0 → ⊥) where
+    over-out : most < n → (eqb n 0 || ltb most n) ≡ true
+    over-out l = rw (ne-eqb n 0 not-zero, lt-ltb most n l)
+
+    pub within-range : n ≤ most → (eqb n 0 || ltb most n) ≡ false
+    within-range l = rw (ne-eqb n 0 not-zero, le-ltb most n l)
+
+-- ---- one task
+
+module _ (i : ℕ) (t : Task) (ts : List Task) where
+  -- the three checks of a task stand before those of the next
+  task-first : task-checks i (t ∷ ts) ≡ task-checks i (t ∷ []) ++ task-checks (suc i) ts
+  unfolding task-checks
+  task-first = refl
+
+  pub ill-formed : (in-range t && well-formed t) ≡ false → outcome (task-checks i (t ∷ ts)) ≡ Refused (IllFormed i)
+  unfolding task-checks
+  ill-formed e = applies _ _ _ (ap not e)
+
+  module _ (fits : (in-range t && well-formed t) ≡ true) where
+    pub lock-above : lock-fits t ≡ false → outcome (task-checks i (t ∷ ts)) ≡ Refused (Lock i)
+    unfolding task-checks
+    lock-above e = passed-over _ _ _ (ap not fits) ∙ applies _ _ _ (ap not e)
+
+    module _ (below : lock-fits t ≡ true) where
+      to-the-third : outcome (task-checks i (t ∷ ts)) ≡ outcome ((not (monotonic t) ⇒ NotMonotonic i) ∷ task-checks (suc i) ts)
+      unfolding task-checks
+      to-the-third = passed-over _ _ _ (ap not fits) ∙ passed-over _ _ _ (ap not below)
+
+      pub no-start : start-of t ≡ Nowhere → outcome (task-checks i (t ∷ ts)) ≡ Refused (NotMonotonic i)
+      unfolding start-of monotonic
+      no-start e = to-the-third ∙ applies _ _ _ (ap not (none-found (found-nowhere _ e)))
+
+      pub passed : (s : ℕ) → start-of t ≡ At s → outcome (task-checks i (t ∷ ts)) ≡ outcome (task-checks (suc i) ts)
+      unfolding start-of monotonic
+      passed s e = to-the-third ∙ passed-over _ _ _ (ap not (some-found (found-at _ s e)))
+
+pub no-more : (i : ℕ) → outcome (task-checks i []) ≡ Admitted
+unfolding task-checks outcome
+no-more i = refl
+
+-- ---- task by task
+
+-- the answer to the records from i on
+pub tasks-left : List Record → ℕ → ℕ → Answer
+tasks-left records count i = outcome (task-checks i (map task-in (remaining records count i)))
+
+pub counts-left : List Record → ℕ → ℕ → Answer
+counts-left records count i = outcome (frame-count-checks i (remaining records count i))
+
+module _ (records : List Record) (count : ℕ) where
+  pub tasks-all : tasks-left records count 0 ≡ outcome (task-checks 0 (map task-in (take count records)))
+  unfolding tasks-left
+  tasks-all = rw (all-remain records count)
+
+  pub counts-all : counts-left records count 0 ≡ outcome (frame-count-checks 0 (take count records))
+  unfolding counts-left
+  counts-all = rw (all-remain records count)
+
+  module _ (there : count ≤ length records) where
+    module _ (i : ℕ) (d : Record) (h : i < count) where
+      task-turn : tasks-left records count i
+          ≡ outcome (task-checks i (task-in (getD records i d) ∷ []) ++ task-checks (i + 1) (map task-in (remaining records count (i + 1))))
+      unfolding tasks-left
+      task-turn =
+          rw (one-remains records count there i d h, add-one i)
+          (ap outcome (task-first i (task-in (getD records i d)) (map task-in (remaining records count (suc i)))))
+
+      module _ (a : Answer) (e : a ≡ outcome (task-checks i (task-in (getD records i d) ∷ []))) where
+        pub tasks-pass : a ≡ Admitted → tasks-left records count (i + 1) ≡ tasks-left records count i
+        unfolding tasks-left
+        tasks-pass p = sym (task-turn ∙ admitted-first _ _ (sym e ∙ p))
+
+        pub tasks-refuse : (r : Refusal) → a ≡ Refused r → tasks-left records count i ≡ Refused r
+        tasks-refuse r p = task-turn ∙ refused-first _ _ r (sym e ∙ p)
+
+      count-turn : counts-left records count i
+          ≡ outcome (frame-count-check i (getD records i d .«frame_count») ∷ frame-count-checks (i + 1) (remaining records count (i + 1)))
+      unfolding counts-left frame-count-checks
+      count-turn = rw (one-remains records count there i d h, add-one i)
+
+      module _ (n : ℕ) (e : n ≡ getD records i d .«frame_count») where
+        count-is : outcome (frame-count-check i n ∷ frame-count-checks (i + 1) (remaining records count (i + 1))) ≡ counts-left records count i
+        count-is = rw (← e) at (sym count-turn)
+
+        pub counts-zero : n ≡ 0 → Refused (FrameCount i) ≡ counts-left records count i
+        unfolding frame-count-check
+        counts-zero z = sym (applies _ _ _ (zero-out n most-frames z)) ∙ count-is
+
+        pub counts-over : (n ≡ 0 → ⊥) → most-frames < n → Refused (FrameCount i) ≡ counts-left records count i
+        unfolding frame-count-check
+        counts-over z l = sym (applies _ _ _ (over-out n most-frames z l)) ∙ count-is
+
+        pub counts-pass : (n ≡ 0 → ⊥) → n ≤ most-frames → counts-left records count (i + 1) ≡ counts-left records count i
+        unfolding counts-left frame-count-check
+        counts-pass z l = sym (passed-over _ _ _ (within-range n most-frames z l)) ∙ count-is
+
+    pub tasks-end : (i : ℕ) → count ≤ i → tasks-left records count i ≡ Admitted
+    unfolding tasks-left task-checks outcome
+    tasks-end i h = rw (none-remain records count there i h)
+
+    pub counts-end : (i : ℕ) → count ≤ i → counts-left records count i ≡ Admitted
+    unfolding counts-left frame-count-checks outcome
+    counts-end i h = rw (none-remain records count there i h)
+
+-- ---- a list
+
+module _ (s : Sheet) where
+  pub policy-refused : deadline-monotonic < s .policy → admission s ≡ Refused Policy
+  unfolding admission list-checks policy-check
+  policy-refused h = applies _ _ _ (lt-ltb deadline-monotonic (s .policy) h)
+
+  module _ (known : s .policy ≤ deadline-monotonic) where
+    to-the-second : admission s
+        ≡ outcome (task-count-check (s .«task_count») ∷ frame-count-checks 0 (records-of s) ++ task-checks 0 (map task-in (records-of s)))
+    unfolding admission list-checks policy-check
+    to-the-second = passed-over _ _ _ (le-ltb deadline-monotonic (s .policy) known)
+
+    pub no-task : s .«task_count» ≡ 0 → admission s ≡ Refused TaskCount
+    unfolding task-count-check
+    no-task z = to-the-second ∙ applies _ _ _ (zero-out (s .«task_count») most-tasks z)
+
+    module _ (some-task : s .«task_count» ≡ 0 → ⊥) where
+      pub many-tasks : most-tasks < s .«task_count» → admission s ≡ Refused TaskCount
+      unfolding task-count-check
+      many-tasks l = to-the-second ∙ applies _ _ _ (over-out (s .«task_count») most-tasks some-task l)
+
+      module _ (few : s .«task_count» ≤ most-tasks) where
+        pub by-task : admission s ≡ outcome (frame-count-checks 0 (records-of s) ++ task-checks 0 (map task-in (records-of s)))
+        unfolding task-count-check
+        by-task = to-the-second ∙ passed-over _ _ _ (within-range (s .«task_count») most-tasks some-task few)
+
+        module _ (a : Answer) (e : a ≡ outcome (frame-count-checks 0 (records-of s))) where
+          pub count-refused : (r : Refusal) → a ≡ Refused r → admission s ≡ Refused r
+          count-refused r p = by-task ∙ refused-first _ _ r (sym e ∙ p)
+
+          pub counts-admitted : a ≡ Admitted → admission s ≡ outcome (task-checks 0 (map task-in (records-of s)))
+          counts-admitted p = by-task ∙ admitted-first _ _ (sym e ∙ p)

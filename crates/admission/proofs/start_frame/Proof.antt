@@ -1,0 +1,86 @@
+-- `start_frame` meets its contract: frames s on are left to try.
+use mathlib.Core.Path.{_≡_, sym, ap, _∙_}
+use Prim.Native.Nat.{ℕ, _≤_, _-_}
+use mathlib.Core.List.{List}
+use native.Mathlib.Omega.{arith}
+use lib.ListN.{length, take}
+use Rattle.theory.specs.First.{first}
+use Rattle.theory.specs.Tasks.{frame-count, qualifies}
+use Rattle.sheet.specs.Tasks.{task-in}
+use Rattle.admission.specs.Frames.{of-frames}
+use Rattle.admission.specs.Start.{start-of}
+use Rattle.admission.proofs.Sums.{count-is}
+use Rattle.admission.proofs.Records.{frames-in}
+use Rattle.admission.proofs.Starts.{starts-left, starts-all, starts-pass, starts-fail, starts-end, start-of-frames}
+use borrow.Author.Needs.{needs}
+use Rattle.admission.proofs.start_frame.Statement.{statement}
+use Rattle.admission.proofs.start_frame.Tie as tie
+
+abbrev Inv-loop : tie.InvT-loop
+Inv-loop frames count s₀ s =
+    (s ≤ count)
+    × (starts-left (of-frames (take count frames)) count s
+    ≡ first 0 (frame-count (of-frames (take count frames))) (qualifies (of-frames (take count frames))))
+
+abbrev μ-loop : tie.MeasureT-loop
+μ-loop frames count s₀ s = count - s
+
+-- the frames in use are all that the start depends on
+same : (c : tie.After-in-use Inv-loop μ-loop)
+    → let r = c .before .before .before .args .task in start-of (of-frames (take (c .in-use .result) (r .frames))) ≡ start-of (task-in r)
+same c =
+    let r = c .before .before .before .args .task in
+    ap (λ (fs : List ℕ). start-of (of-frames fs)) (frames-in r _ _ (c .before .frame-places .ensures) (c .in-use .ensures)) ∙ start-of-frames (task-in r)
+
+frame-places-requires : tie.Need-frame-places-requires Inv-loop μ-loop
+frame-places-requires c κs = search needs
+
+in-use-requires : tie.Need-in-use-requires Inv-loop μ-loop
+in-use-requires c κs = search needs
+
+loop-holds : tie.Need-loop-holds Inv-loop μ-loop
+loop-holds c =
+    let there : c .in-use .result ≤ length (c .before .before .before .args .task .frames) = omega arith in
+    (search needs, starts-all _ _ (count-is _ _ there))
+
+qualifies-requires : tie.Need-qualifies-requires Inv-loop μ-loop
+qualifies-requires c κs = (c .before .before .before .before .frame-places .ensures .1, omega arith, c .before .loop-test .taken)
+
+cast-t10 : tie.Need-cast-t10 Inv-loop μ-loop
+cast-t10 c = search needs
+
+returns : tie.Need-returns Inv-loop μ-loop
+returns c =
+    let at = c .before .before .before .before in
+    sym (starts-pass _ _ _ (at .loop .inv .1) (c .before .before .before .loop-test .taken) (sym (c .before .qualifies .ensures) ∙ c .if1 .taken)) ∙ same (at .before)
+
+add-s : tie.Need-add-s Inv-loop μ-loop
+add-s c = search needs
+
+loop-less : tie.Need-loop-less Inv-loop μ-loop
+loop-less c = search needs
+
+loop-again : tie.Need-loop-again Inv-loop μ-loop
+loop-again c =
+    let at = c .before .before .before .before in
+    (search needs, starts-fail _ _ _ (at .loop .inv .1) (c .before .before .before .loop-test .taken) (sym (c .before .qualifies .ensures) ∙ c .if1 .left))
+
+returns-2 : tie.Need-returns-2 Inv-loop μ-loop
+returns-2 c = sym (starts-end _ _ _ (c .before .loop .inv .1) (c .loop-test .left)) ∙ same (c .before .before)
+
+pub start-frame-spec : {M : Type 1} → statement M
+start-frame-spec =
+    tie.close
+    (tie.spec
+    Inv-loop
+    μ-loop
+    frame-places-requires
+    in-use-requires
+    loop-holds
+    qualifies-requires
+    cast-t10
+    returns
+    add-s
+    loop-less
+    loop-again
+    returns-2)

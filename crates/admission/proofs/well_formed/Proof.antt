@@ -1,0 +1,56 @@
+-- `well_formed` meets its contract.
+use mathlib.Core.Path.{sym, ap, _∙_}
+use native.Mathlib.Omega.{arith}
+use Rattle.sheet.specs.Tasks.{task-in}
+use Rattle.admission.specs.Frames.{all-between}
+use Rattle.admission.proofs.Records.{frames-in}
+use Rattle.admission.proofs.Fits.{turned-away, frames-decide}
+use borrow.Author.Needs.{needs}
+use Rattle.admission.proofs.well_formed.Statement.{statement}
+use Rattle.admission.proofs.well_formed.Tie as tie
+
+returns : tie.Need-returns
+unfolding task-in
+returns c = sym (turned-away _ (λ f. omega arith))
+
+returns-2 : tie.Need-returns-2
+unfolding task-in
+returns-2 c = sym (turned-away _ (λ f. omega arith))
+
+returns-3 : tie.Need-returns-3
+unfolding task-in
+returns-3 c = sym (turned-away _ (λ f. omega arith))
+
+returns-4 : tie.Need-returns-4
+unfolding task-in
+returns-4 c = sym (turned-away _ (λ f. omega arith))
+
+frame-places-requires : tie.Need-frame-places-requires
+frame-places-requires c κs = search needs
+
+in-use-requires : tie.Need-in-use-requires
+in-use-requires c κs = search needs
+
+frames-between-requires : tie.Need-frames-between-requires
+frames-between-requires c κs = (c .before .before .frame-places .ensures .1, omega arith)
+
+returns-5 : tie.Need-returns-5
+unfolding task-in
+returns-5 c =
+    let r = c .before .before .before .before .before .before .before .before .before .before .args .task in
+    c .frames-between .ensures
+    ∙ ap (all-between 1 (r .deadline)) (frames-in r _ _ (c .before .before .before .frame-places .ensures) (c .before .before .in-use .ensures))
+    ∙ frames-decide (task-in r) (omega arith) (omega arith) (omega arith) (omega arith)
+
+pub well-formed-spec : {M : Type 1} → statement M
+well-formed-spec =
+    tie.close
+    (tie.spec
+    returns
+    returns-2
+    returns-3
+    returns-4
+    frame-places-requires
+    in-use-requires
+    frames-between-requires
+    returns-5)

@@ -1,0 +1,255 @@
+// Admission of a task list by value: the start frame of a task, 9, 10 and 11 task by task, and the whole order for a list.
+ghost use mathlib.Core.Bool.{_&&_};
+ghost use mathlib.Core.List.{[], _∷_, map};
+ghost use mathlib.Core.Path.{_≡_};
+ghost use Prim.Native.Nat.{suc, _^_, _%_, _≤_, _<_, min};
+ghost use lib.ListN.{length, take};
+ghost use Rattle.theory.specs.Tasks.{largest, qualifies};
+ghost use Rattle.sheet.specs.Tasks.{task-in, records-of};
+ghost use Rattle.sheet.specs.Admission.{outcome, in-range, well-formed, lock-fits, task-checks, frame-count-checks, admission};
+ghost use Rattle.admission.specs.Start.{start-of};
+ghost use Rattle.admission.specs.Frames.{of-frames, from-at-least, all-between};
+use sheet::Answer;
+use sheet::Refusal;
+use sheet::Sheet;
+use sheet::Task;
+
+// The start frame of a task, if it has one.
+pub enum Start {
+    At(u32),
+    Nowhere,
+}
+
+// Sums of eight fit 64 bits.
+fn wide(x: u32) -> u64
+    ensures { λ r. ⌜ (r ≡ x) × (r < 2 ^ 32) ⌝ }
+{
+    x as u64
+}
+
+// How many frame times a record has room for.
+fn frame_places(frames: [u32; 8]) -> u32
+    ensures { λ r. ⌜ (r ≡ 8) × (length frames ≡ 8) ⌝ }
+{
+    Sheet::MOST_FRAMES
+}
+
+// How many records a set by value has room for.
+fn task_places(tasks: [Task; 16]) -> u32
+    ensures { λ r. ⌜ (r ≡ 16) × (length tasks ≡ 16) ⌝ }
+{
+    Sheet::MOST_TASKS
+}
+
+// How many of the places that there are a count takes.
+fn in_use(count: u32, places: u32) -> usize
+    ensures { λ r. ⌜ r ≡ min count places ⌝ }
+{
+    if count < places {
+        return count as usize;
+    }
+    places as usize
+}
+
+// The frame that follows frame i, going round.
+fn next(i: usize, count: usize) -> usize
+    requires { ⌜ i < count ⌝ }
+    ensures { λ r. ⌜ r ≡ suc i % count ⌝ }
+{
+    if i < count - 1 {
+        return i + 1;
+    }
+    0
+}
+
+// Whether the sum from frame s is at least that from frame k, going round, for each length up to the number of frames.
+fn at_least(frames: &[u32; 8], count: usize, s: usize, k: usize) -> bool
+    requires { ⌜ (length (now frames) ≡ 8) × (count ≤ 8) × (s < count) × (k < count) ⌝ }
+    ensures { λ r. ⌜ r ≡ from-at-least (of-frames (take count (now (frames .entry)))) s k ⌝ }
+{
+    let mut sum_s: u64 = 0;
+    let mut sum_k: u64 = 0;
+    let mut i = s;
+    let mut j = k;
+    let mut n: usize = 0;
+    while n < count {
+        sum_s += wide(frames[i]);
+        sum_k += wide(frames[j]);
+        if sum_s < sum_k {
+            return false;
+        }
+        i = next(i, count);
+        j = next(j, count);
+        n += 1;
+    }
+    true
+}
+
+// Whether frame s qualifies as a start frame.
+fn qualifies(frames: &[u32; 8], count: usize, s: usize) -> bool
+    requires { ⌜ (length (now frames) ≡ 8) × (count ≤ 8) × (s < count) ⌝ }
+    ensures { λ r. ⌜ r ≡ qualifies (of-frames (take count (now (frames .entry)))) s ⌝ }
+{
+    for k in 0..count {
+        if !at_least(frames, count, s, k) {
+            return false;
+        }
+    }
+    true
+}
+
+// The lowest-numbered frame that qualifies.
+pub fn start_frame(task: Task) -> Start
+    ensures { λ r. ⌜ r ≡ start-of (task-in task) ⌝ }
+{
+    let frames = task.frames;
+    let count = in_use(task.frame_count, frame_places(frames));
+    for s in 0..count {
+        if qualifies(&frames, count, s) {
+            return Start::At(s as u32);
+        }
+    }
+    Start::Nowhere
+}
+
+fn largest(frames: &[u32; 8], count: usize) -> u32
+    requires { ⌜ (length (now frames) ≡ 8) × (count ≤ 8) ⌝ }
+    ensures { λ r. ⌜ r ≡ largest (take count (now (frames .entry))) ⌝ }
+{
+    let mut most: u32 = 0;
+    for k in 0..count {
+        let c = frames[k];
+        if most < c {
+            most = c;
+        }
+    }
+    most
+}
+
+// Whether every frame time lies in least to greatest.
+fn frames_between(frames: &[u32; 8], count: usize, least: u32, greatest: u32) -> bool
+    requires { ⌜ (length (now frames) ≡ 8) × (count ≤ 8) ⌝ }
+    ensures { λ r. ⌜ r ≡ all-between least greatest (take count (now (frames .entry))) ⌝ }
+{
+    for k in 0..count {
+        let c = frames[k];
+        if c < least {
+            return false;
+        }
+        if greatest < c {
+            return false;
+        }
+    }
+    true
+}
+
+// Whether a task is in range and well formed. A frame time that is at most a deadline in range is in range above.
+fn well_formed(task: Task) -> bool
+    ensures { λ r. ⌜ r ≡ (in-range (task-in task) && well-formed (task-in task)) ⌝ }
+{
+    let period = task.period;
+    let deadline = task.deadline;
+    if Sheet::GREATEST_TIME < period {
+        return false;
+    }
+    if period < deadline {
+        return false;
+    }
+    if deadline < 1 {
+        return false;
+    }
+    if Sheet::GREATEST_TIME < task.lock {
+        return false;
+    }
+    let frames = task.frames;
+    let count = in_use(task.frame_count, frame_places(frames));
+    frames_between(&frames, count, 1, deadline)
+}
+
+// The largest frame time of a task.
+pub fn largest_time(task: Task) -> u32
+    ensures { λ r. ⌜ r ≡ largest (task-in task .frames) ⌝ }
+{
+    let frames = task.frames;
+    let count = in_use(task.frame_count, frame_places(frames));
+    largest(&frames, count)
+}
+
+// Whether the lock is at most the largest frame time.
+fn lock_fits(task: Task) -> bool
+    ensures { λ r. ⌜ r ≡ lock-fits (task-in task) ⌝ }
+{
+    task.lock <= largest_time(task)
+}
+
+// 9, 10, 11 of one task.
+fn task_answer(task: Task, number: u32) -> Answer
+    ensures { λ r. ⌜ r ≡ outcome (task-checks number (task-in task ∷ [])) ⌝ }
+{
+    let formed = well_formed(task);
+    let fits = lock_fits(task);
+    if !formed {
+        return Answer::Refused(Refusal::IllFormed(number));
+    }
+    if !fits {
+        return Answer::Refused(Refusal::Lock(number));
+    }
+    match start_frame(task) {
+        Start::At(_) => Answer::Admitted,
+        Start::Nowhere => Answer::Refused(Refusal::NotMonotonic(number)),
+    }
+}
+
+// 9, 10, 11 task by task.
+pub fn admit_tasks(sheet: Sheet) -> Answer
+    ensures { λ r. ⌜ r ≡ outcome (task-checks 0 (map task-in (records-of sheet))) ⌝ }
+{
+    let count = in_use(sheet.task_count, task_places(sheet.tasks));
+    for i in 0..count {
+        let task = sheet.tasks[i];
+        let answer = task_answer(task, i as u32);
+        if let Answer::Refused(refusal) = answer {
+            return Answer::Refused(refusal);
+        }
+    }
+    Answer::Admitted
+}
+
+// 7 task by task.
+fn frame_counts(sheet: Sheet) -> Answer
+    ensures { λ r. ⌜ r ≡ outcome (frame-count-checks 0 (records-of sheet)) ⌝ }
+{
+    let count = in_use(sheet.task_count, task_places(sheet.tasks));
+    for i in 0..count {
+        let task = sheet.tasks[i];
+        let n = task.frame_count;
+        if n == 0 {
+            return Answer::Refused(Refusal::FrameCount(i as u32));
+        }
+        if Sheet::MOST_FRAMES < n {
+            return Answer::Refused(Refusal::FrameCount(i as u32));
+        }
+    }
+    Answer::Admitted
+}
+
+// The order for a list: 4, 6, 7 task by task, then task by task 9, 10, 11.
+pub fn admit(sheet: Sheet) -> Answer
+    ensures { λ r. ⌜ r ≡ admission sheet ⌝ }
+{
+    if Sheet::DEADLINE_MONOTONIC < sheet.policy {
+        return Answer::Refused(Refusal::Policy);
+    }
+    let count = sheet.task_count;
+    if count == 0 {
+        return Answer::Refused(Refusal::TaskCount);
+    }
+    if Sheet::MOST_TASKS < count {
+        return Answer::Refused(Refusal::TaskCount);
+    }
+    let answer = frame_counts(sheet);
+    if let Answer::Refused(refusal) = answer {
+        return Answer::Refused(refusal);
+    }
+    admit_tasks(sheet)
+}

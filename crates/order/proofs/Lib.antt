@@ -1,0 +1,10 @@
+-- What other crates cite stands in Order and Laws, case L in Examples; the rest stands below these.
+pub mod Higher
+pub mod Order
+pub mod Records
+pub mod Rows
+pub mod Keys
+pub mod ByKeys
+pub mod Below
+pub mod Laws
+pub mod Examples

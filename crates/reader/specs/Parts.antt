@@ -1,0 +1,71 @@
+-- What the reader's parts answer, each over the bits that it looks at.
+use mathlib.Core.Bool.{Bool, not}
+use mathlib.Core.List.{List, [], _∷_, map}
+use Prim.Native.Nat.{ℕ, _+_}
+use lib.Dec.{ltb, eqb}
+use lib.ListN.{length}
+use Rattle.sheet.specs.Constants.{the-version}
+use Rattle.sheet.specs.Fields.{total, fixed-widths}
+use Rattle.sheet.specs.Tasks.{task-in, record-of, records-of, blank-record, sheet-with, blank-sheet}
+use Rattle.sheet.specs.Layout.{header-in, records-in, frame-count-in, record-width, task-at-start, tasks-in}
+use Rattle.sheet.specs.Admission.{Check, _⇒_, outcome, policy-check, task-count-check, frame-count-check, task-checks}
+use Rattle.sheet.specs.Reading.{layout-checks}
+use Rattle.sheet.specs.declared.Answer.{Answer}
+use Rattle.sheet.specs.declared.Answer.the-variants.{Admitted, Refused}
+use Rattle.sheet.specs.declared.Reading.{Reading}
+use Rattle.sheet.specs.declared.Refusal.{Refusal}
+use Rattle.sheet.specs.declared.Refusal.the-variants.{Version, BitSet, Records}
+use Rattle.sheet.specs.declared.Sheet.{Sheet}
+use Rattle.reader.specs.declared.Found.{Found}
+
+-- a refusal, and beside it a set with no task
+unfoldable pub turned-away : Refusal → Reading
+turned-away why = record { answer = Refused why; sheet = blank-sheet }
+
+-- a set where it is admitted
+unfoldable pub reading-of : Answer → Sheet → Reading
+reading-of Admitted s = record { answer = Admitted; sheet = s }
+reading-of (Refused why) s = turned-away why
+
+-- the checks of one record, that of task i, at the start of the bits
+unfoldable pub record-checks : ℕ → List Bool → List Check
+record-checks i bits =
+    (ltb (length bits) (total fixed-widths) ⇒ Records)
+    ∷ frame-count-check i (frame-count-in bits)
+    ∷ (ltb (length bits) (record-width bits) ⇒ Records)
+    ∷ []
+
+unfoldable pub nothing-found : Refusal → Found
+nothing-found why = record { answer = Refused why; next = 0; task = blank-record }
+
+unfoldable pub found-by : Answer → ℕ → List Bool → Found
+found-by Admitted at bits = record { answer = Admitted; next = at + record-width bits; task = record-of (task-at-start bits) }
+found-by (Refused why) at bits = nothing-found why
+
+-- the record at the start of the bits, which themselves start at a bit position
+unfoldable pub found-at : ℕ → ℕ → List Bool → Found
+found-at i at bits = found-by (outcome (record-checks i bits)) at bits
+
+-- a policy and the n tasks whose records stand at the start of the bits
+unfoldable pub records-reading : ℕ → ℕ → List Bool → Reading
+records-reading policy n bits = reading-of (outcome (layout-checks 0 n bits)) (sheet-with policy (tasks-in n bits))
+
+-- "3, 4, 5 for header bits, 6. Then task by task .."
+unfoldable pub body-checks : List Bool → List Check
+body-checks bits =
+    let header = header-in bits in
+    (not (eqb (header .version) the-version) ⇒ Version)
+    ∷ policy-check (header .policy)
+    ∷ (not (eqb (header .spare) 0) ⇒ BitSet)
+    ∷ task-count-check (header .task-count)
+    ∷ layout-checks 0 (header .task-count) (records-in bits)
+
+unfoldable pub set-in : List Bool → Sheet
+set-in bits = let header = header-in bits in sheet-with (header .policy) (tasks-in (header .task-count) (records-in bits))
+
+unfoldable pub body-reading : List Bool → Reading
+body-reading bits = reading-of (outcome (body-checks bits)) (set-in bits)
+
+-- "Then task by task 9, 10, 11."
+unfoldable pub judged : Sheet → Reading
+judged s = reading-of (outcome (task-checks 0 (map task-in (records-of s)))) s

@@ -1,0 +1,84 @@
+-- The records of a set one after another: their bits and how many there are.
+use mathlib.Core.Bool.{Bool}
+use mathlib.Core.List.{List, [], _∷_, _++_, map, append-nil, append-assoc}
+use mathlib.Core.Path.{_≡_, refl, sym, ap, _∙_}
+use Prim.Native.Nat.{ℕ, zero, suc, _+_, _*_, _/_, _≤_, _<_}
+use native.Mathlib.Numerals.{add-one}
+use native.Mathlib.Omega.{arith}
+use lib.ListN.{length, getD, take, length-append}
+use Rattle.check_word.proofs.Sealing.{length-seal}
+use Rattle.sheet.specs.Constants.{time-width, most-tasks, most-frames, greatest-size}
+use Rattle.sheet.specs.Fields.{total, frame-widths}
+use Rattle.sheet.specs.Tasks.{task-in, records-of}
+use Rattle.sheet.specs.Admission.{admission}
+use Rattle.sheet.specs.Writing.{header-bits, task-bits, tasks-bits, whole-bytes, sheet-of, sheet-bytes}
+use Rattle.sheet.specs.declared.Task.{Task as Record}
+use Rattle.sheet.specs.declared.Sheet.{Sheet}
+use Rattle.sheet.specs.declared.Answer.the-variants.{Admitted}
+use Rattle.sheet.proofs.Packing.{total-replicate}
+use Rattle.sheet.proofs.RecordBits.{length-header, length-task-bits}
+use Rattle.sheet.proofs.Sizes.{length-whole, admitted-size}
+use Rattle.writer.proofs.Tasks.{count-is}
+
+-- ---- how many bits
+
+pub length-record : (r : Record) → r .«frame_count» ≤ most-frames → length (r .frames) ≡ most-frames → length (task-bits (task-in r)) ≡ 64 + 20 * r .«frame_count»
+unfolding task-in total
+length-record r few long =
+    length-task-bits (task-in r)
+    ∙ ap (λ (n : ℕ). 64 + total (frame-widths n)) (count-is r few long)
+    ∙ rw (total-replicate (r .«frame_count») time-width) (omega arith)
+
+-- ---- records one after another
+
+-- the bits of records
+pub records-bits : List Record → List Bool
+records-bits rs = tasks-bits (map task-in rs)
+
+pub no-records : (rs : List Record) → records-bits (take 0 rs) ≡ []
+unfolding records-bits tasks-bits
+no-records rs = refl
+
+pub records-of-bits : (s : Sheet) → records-bits (records-of s) ≡ tasks-bits (map task-in (records-of s))
+unfolding records-bits
+records-of-bits s = refl
+
+records-more : (rs : List Record) (i : ℕ) (d : Record) → i < length rs → records-bits (take (suc i) rs) ≡ records-bits (take i rs) ++ task-bits (task-in (getD rs i d))
+unfolding records-bits tasks-bits
+records-more [] i d h = let z : ⊥ = omega arith in absurd z
+records-more (r ∷ rs) zero d h = append-nil (task-bits (task-in r))
+records-more (r ∷ rs) (suc i) d h =
+    ap (λ (l : List Bool). task-bits (task-in r) ++ l) (records-more rs i d (omega arith))
+    ∙ sym (append-assoc (task-bits (task-in r)) (records-bits (take i rs)) (task-bits (task-in (getD rs i d))))
+
+pub record-more : (rs : List Record) (i : ℕ) (d : Record) → i < length rs → records-bits (take (i + 1) rs) ≡ records-bits (take i rs) ++ task-bits (task-in (getD rs i d))
+record-more rs i d h = ap (λ (k : ℕ). records-bits (take k rs)) (add-one i) ∙ records-more rs i d h
+
+-- the first i records and the next are part of the first n
+pub records-part : (rs : List Record) (i n : ℕ) (d : Record) → i < n → n ≤ length rs
+    → length (records-bits (take i rs)) + length (task-bits (task-in (getD rs i d))) ≤ length (records-bits (take n rs))
+unfolding records-bits tasks-bits
+records-part [] i n d h l = let z : ⊥ = omega arith in absurd z
+records-part (r ∷ rs) i zero d h l = let z : ⊥ = omega arith in absurd z
+records-part (r ∷ rs) zero (suc n) d h l = rw (length-append (task-bits (task-in r)) (records-bits (take n rs))) (omega arith)
+records-part (r ∷ rs) (suc i) (suc n) d h l =
+    rw (length-append (task-bits (task-in r)) (records-bits (take n rs)), length-append (task-bits (task-in r)) (records-bits (take i rs)))
+    (omega (arith, records-part rs i n d (omega arith) (omega arith)))
+
+-- ---- the sheet's length
+
+pub size-is : (s : Sheet) → length (sheet-bytes s) ≡ (16 + length (records-bits (records-of s)) + 7) / 8 + 2
+unfolding sheet-bytes sheet-of records-bits total
+size-is s =
+    let h = header-bits (s .policy) (length (map task-in (records-of s))) in
+    let r = records-bits (records-of s) in
+    length-seal (whole-bytes (h ++ r))
+    ∙ ap (λ (k : ℕ). k + 2) (length-whole (h ++ r))
+    ∙ ap (λ (k : ℕ). (k + 7) / 8 + 2) (length-append h r ∙ ap (λ (k : ℕ). k + length r) (length-header _ _))
+
+module _ (s : Sheet) (e : admission s ≡ Admitted) (long : length (s .tasks) ≡ most-tasks) where
+  pub size-most : length (sheet-bytes s) ≤ greatest-size
+  size-most = admitted-size s long e .1
+
+  pub bits-most : length (records-bits (records-of s)) ≤ 3584
+  bits-most = omega (arith, size-is s, size-most)
