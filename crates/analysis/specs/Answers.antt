@@ -14,6 +14,7 @@ use Rattle.sheet.specs.declared.Sheet.{Sheet}
 use Rattle.sheet.specs.declared.Answer.{Answer}
 use Rattle.sheet.specs.declared.Answer.the-variants.{Admitted}
 use Rattle.sheet.specs.declared.Answer.the-variants.{Refused as refused}
+use Rattle.sheet.specs.declared.Refusal.{Refusal}
 use Rattle.sheet.specs.declared.Refusal.the-variants.{Room}
 use Rattle.analysis.specs.Times.{outcome-of, times-of}
 use Rattle.order.specs.declared.Blocker.{Blocker}
@@ -37,7 +38,11 @@ unfoldable pub outcome-by : Answer → ℕ → List Task → Outcome
 outcome-by Admitted policy tasks = outcome-of policy tasks
 outcome-by (refused r) policy tasks = Refused r
 
--- by value: the times in room for sixteen tasks, 0 behind those of the set; no task and 0 throughout where it is refused
+-- a refused set: no task, and 0 throughout
+unfoldable pub refused-analysis : Refusal → Analysis
+refused-analysis r = record { outcome = Refused r; «task_count» = 0; times = replicate (most-frames * most-tasks) 0 }
+
+-- by value: the times in room for sixteen tasks, 0 behind those of the set
 unfoldable pub analysis-by : Answer → ℕ → List Task → Analysis
 analysis-by Admitted policy tasks =
     record {
@@ -45,7 +50,7 @@ analysis-by Admitted policy tasks =
       «task_count» = length tasks;
       times = times-of policy tasks ++ replicate (most-frames * (most-tasks - length tasks)) 0;
     }
-analysis-by (refused r) policy tasks = record { outcome = Refused r; «task_count» = 0; times = replicate (most-frames * most-tasks) 0 }
+analysis-by (refused r) policy tasks = refused-analysis r
 
 -- a set by value, and a sheet
 unfoldable pub set-analysis : Sheet → Analysis

@@ -1,0 +1,192 @@
+-- From the steps to the entries: what the ordered copy of an admitted set gives, and what lent numbers hold.
+use mathlib.Core.Bool.{Bool, true, false, cond}
+use mathlib.Core.List.{List, [], _∷_, _++_, map}
+use mathlib.Core.Path.{_≡_, refl, sym, ap, ap₂, _∙_}
+use Prim.Native.Nat.{ℕ, zero, suc, _+_, _-_, _*_, _≤_, _<_, zero-le}
+use native.Mathlib.Decide.{decLt}
+use native.Mathlib.Omega.{arith}
+use borrow.Author.Tests.{lt-ltb, le-ltb}
+use lib.Dec.{ltb}
+use lib.ListN.{length, getD, take, drop, replicate, List·getD-eq-default, length-append}
+use lib.Seq.{take-at}
+use Rattle.theory.specs.Tasks.{Task, task-at, frame-count, Admitted as IsAdmitted}
+use Rattle.theory.specs.Analysis.{verdict}
+use Rattle.sheet.specs.Tasks.{task-in, records-of, sheet-with}
+use Rattle.sheet.specs.Admission.{Check, outcome, list-checks, admission}
+use Rattle.sheet.specs.Reading.{sheet-checks, policy-of, tasks-of, reading}
+use Rattle.sheet.specs.declared.Sheet.{Sheet}
+use Rattle.sheet.specs.declared.Reading.{Reading}
+use Rattle.sheet.specs.declared.Answer.{Answer}
+use Rattle.sheet.specs.declared.Answer.the-variants.{Admitted}
+use Rattle.sheet.specs.declared.Answer.the-variants.{Refused as refused}
+use Rattle.sheet.specs.declared.Refusal.{Refusal}
+use Rattle.sheet.specs.declared.Refusal.the-variants.{Room}
+use Rattle.sheet.proofs.Checks.{applies, passed-over, admitted-first, refused-first}
+use Rattle.sheet.proofs.Records.{tasks-with}
+use Rattle.sheet.proofs.InFields.{Each, no-task, task-more, FramesCounted}
+use Rattle.sheet.proofs.Carried.{Carried, by-admission, count-in-use, by-reading, reading-answer, admitted-reading}
+use Rattle.sheet.proofs.Analysable.{admitted-set-is-admitted}
+use Rattle.order.specs.Order.{priority-order, ordered-set}
+use Rattle.order.specs.Ordered.{order-of, ordered}
+use Rattle.order.specs.Ordered.{tasks-of as tasks-in-order}
+use Rattle.order.specs.declared.Ordered.{Ordered}
+use Rattle.order.proofs.Laws.{ordered-length, ordered-at, ordered-admitted, ordered-tasks, ordered-count, order-of-length}
+use Rattle.analysis.specs.Times.{verdict-number, outcome-of, places-from, times-of}
+use Rattle.analysis.specs.Ready.{Ready, numbers-of, all-times}
+use Rattle.analysis.specs.Answers.{outcome-by, refused-analysis, analysis-by, set-analysis, sheet-analysis, room-check, left-by, set-answer, set-outcome, set-left, sheet-answer, sheet-outcome, sheet-left}
+use Rattle.analysis.specs.Delivery.{delivered-outcome, delivered}
+use Rattle.analysis.specs.declared.Outcome.{Outcome}
+use Rattle.analysis.specs.declared.Outcome.the-variants.{Refused}
+use Rattle.analysis.specs.declared.Analysis.{Analysis}
+use Rattle.analysis.proofs.TimesAt.{length-all}
+
+few : (ts : List Task) → Each FramesCounted ts → (p : ℕ) → frame-count (task-at ts p) ≤ 8
+unfolding task-at frame-count
+few [] no-task p = zero-le
+few (t ∷ ts) (task-more h e) zero = h .1
+few (t ∷ ts) (task-more h e) (suc p) = few ts e p
+
+-- ---- the ordered copy of an admitted set
+
+module _ (policy : ℕ) (tasks : List Task) (counted : Each FramesCounted tasks) where
+  small-ordered : (p : ℕ) → frame-count (task-at (ordered-set policy tasks) p) ≤ 8
+  unfolding task-at frame-count
+  small-ordered p = go (decLt p (length tasks))
+    where
+      go : Dec (p < length tasks) → frame-count (task-at (ordered-set policy tasks) p) ≤ 8
+      go (yes h) = rw (ordered-at policy tasks p h) (few tasks counted (getD (priority-order policy tasks) p 0))
+      go (no n) =
+          rw (List·getD-eq-default (ordered-set policy tasks) (record { period = 0; deadline = 0; lock = 0; frames = [] }) {n = p} (omega (arith, ordered-length policy tasks))) zero-le
+
+  times-long : length (times-of policy tasks) ≡ 8 * length tasks
+  unfolding times-of
+  times-long = length-all _ _ small-ordered 0 (length tasks)
+
+module _ (s : Sheet) (room : length (s .tasks) ≡ 16) (e : admission s ≡ Admitted) where
+  abbrev tasks : List Task
+  tasks = map task-in (records-of s)
+
+  pub ready : Ready (ordered s)
+  ready =
+      record {
+        framed = λ p h.
+            rw (ordered-tasks s) (ordered-admitted (s .policy) tasks (admitted-set-is-admitted s room e) .each-task p (rw (ordered-tasks s) at h) .well-formed .has-frame);
+        eight = λ p. rw (ordered-tasks s) (small-ordered (s .policy) tasks (by-admission s room e .counted) p);
+      }
+
+  numbers-are : numbers-of (ordered s) ≡ priority-order (s .policy) tasks
+  unfolding numbers-of ordered order-of
+  numbers-are = take-at (priority-order (s .policy) tasks) _ (length (priority-order (s .policy) tasks)) refl
+
+  -- what the steps find is the analysis
+  pub analysis-is : (o : Ordered) (out : Outcome) (n : ℕ) (times : List ℕ) → o ≡ ordered s
+      → out ≡ verdict-number (numbers-of o) (verdict (tasks-in-order o)) → n ≡ length tasks → times ≡ all-times o
+      → _≡_ {A = Analysis} (record { outcome = out; «task_count» = n; times = times }) (analysis-by Admitted (s .policy) tasks)
+  unfolding analysis-by outcome-of times-of all-times
+  analysis-is o out n times eo e-out en et =
+      rw (e-out, en, et, eo, numbers-are, ordered-tasks s, ordered-length (s .policy) tasks)
+
+-- ---- lent numbers
+
+unroomed : (r : Refusal) (policy : ℕ) (tasks : List Task) (room : List ℕ)
+    → (delivered-outcome (analysis-by (refused r) policy tasks) (length room) ≡ Refused r) × (delivered (analysis-by (refused r) policy tasks) room ≡ room)
+unfolding delivered-outcome delivered analysis-by refused-analysis
+unroomed r policy tasks room = rw (le-ltb (length room) 0 zero-le) (refl, refl)
+
+no-place : (policy : ℕ) (tasks : List Task) (room : List ℕ) → length room < 8 * length tasks
+    → (delivered-outcome (analysis-by Admitted policy tasks) (length room) ≡ Refused Room) × (delivered (analysis-by Admitted policy tasks) room ≡ room)
+unfolding delivered-outcome delivered analysis-by
+no-place policy tasks room h = rw (lt-ltb (length room) (8 * length tasks) h) (refl, refl)
+
+placed-well : (policy : ℕ) (tasks : List Task) (room : List ℕ) → 8 * length tasks ≤ length room → length (times-of policy tasks) ≡ 8 * length tasks
+    → (delivered-outcome (analysis-by Admitted policy tasks) (length room) ≡ outcome-of policy tasks)
+    × (delivered (analysis-by Admitted policy tasks) room ≡ times-of policy tasks ++ drop (8 * length tasks) room)
+unfolding delivered-outcome delivered analysis-by
+placed-well policy tasks room h l =
+    rw (le-ltb (length room) (8 * length tasks) h) (refl, ap (λ (x : List ℕ). x ++ drop (8 * length tasks) room) (take-at (times-of policy tasks) _ (8 * length tasks) l))
+
+none-applies : outcome [] ≡ Admitted
+unfolding outcome
+none-applies = refl
+
+-- checks that answer so, and last the room for the times of n tasks
+module _ (cs : List Check) (policy n : ℕ) (tasks : List Task) (room : List ℕ)
+    (count : outcome cs ≡ Admitted → n ≡ length tasks) (long : outcome cs ≡ Admitted → length (times-of policy tasks) ≡ 8 * length tasks) where
+  abbrev last : Answer
+  last = outcome (cs ++ room-check (length room) n ∷ [])
+
+  pub delivery : (delivered-outcome (analysis-by (outcome cs) policy tasks) (length room) ≡ outcome-by last policy tasks)
+      × (delivered (analysis-by (outcome cs) policy tasks) room ≡ left-by last policy tasks room)
+  unfolding outcome-by left-by room-check
+  delivery = go (outcome cs) refl
+    where
+      full : outcome cs ≡ Admitted → length room < 8 * n → last ≡ refused Room
+      full e h = admitted-first cs _ e ∙ applies _ Room [] (lt-ltb (length room) (8 * n) h)
+
+      free : outcome cs ≡ Admitted → 8 * n ≤ length room → last ≡ Admitted
+      free e h = admitted-first cs _ e ∙ passed-over _ Room [] (le-ltb (length room) (8 * n) h) ∙ none-applies
+
+      roomy : outcome cs ≡ Admitted → Dec (length room < 8 * n)
+          → (delivered-outcome (analysis-by (outcome cs) policy tasks) (length room) ≡ outcome-by last policy tasks)
+          × (delivered (analysis-by (outcome cs) policy tasks) room ≡ left-by last policy tasks room)
+      roomy e (yes h) = rw (full e h, e) (no-place policy tasks room (omega (arith, count e)))
+      roomy e (no h) = rw (free e (omega arith), e) (placed-well policy tasks room (omega (arith, count e)) (long e))
+
+      go : (a : Answer) → outcome cs ≡ a
+          → (delivered-outcome (analysis-by (outcome cs) policy tasks) (length room) ≡ outcome-by last policy tasks)
+          × (delivered (analysis-by (outcome cs) policy tasks) room ≡ left-by last policy tasks room)
+      go Admitted e = roomy e (decLt (length room) (8 * n))
+      go (refused r) e = rw (refused-first cs (room-check (length room) n ∷ []) r e, e) (unroomed r policy tasks room)
+
+-- a set by value, and a sheet
+pub set-delivered : (s : Sheet) (room : List ℕ) → length (s .tasks) ≡ 16
+    → (delivered-outcome (set-analysis s) (length room) ≡ set-outcome s room) × (delivered (set-analysis s) room ≡ set-left s room)
+unfolding set-analysis set-outcome set-left set-answer admission
+set-delivered s room sixteen =
+    delivery (list-checks (s .policy) (s .«task_count») (records-of s)) (s .policy) (s .«task_count») (map task-in (records-of s)) room
+    (λ e. sym (count-in-use s sixteen e)) (λ e. times-long (s .policy) (map task-in (records-of s)) (by-admission s sixteen e .counted))
+
+pub sheet-delivered : (s room : List ℕ)
+    → (delivered-outcome (sheet-analysis s) (length room) ≡ sheet-outcome s room) × (delivered (sheet-analysis s) room ≡ sheet-left s room)
+unfolding sheet-analysis sheet-outcome sheet-left sheet-answer
+sheet-delivered s room =
+    delivery (sheet-checks s) (policy-of s) (length (tasks-of s)) (tasks-of s) room
+    (λ e. refl) (λ e. times-long (policy-of s) (tasks-of s) (by-reading s (reading-answer s ∙ e) .counted))
+
+-- an analysis never has more than sixteen tasks
+pub few-analysed : (a : Answer) (policy : ℕ) (tasks : List Task) → (a ≡ Admitted → length tasks ≤ 16) → analysis-by a policy tasks .«task_count» ≤ 16
+unfolding analysis-by refused-analysis
+few-analysed Admitted policy tasks h = h refl
+few-analysed (refused r) policy tasks h = zero-le
+
+pub few-of-set : (s : Sheet) → length (s .tasks) ≡ 16 → set-analysis s .«task_count» ≤ 16
+unfolding set-analysis
+few-of-set s sixteen = few-analysed (admission s) (s .policy) (map task-in (records-of s)) (λ e. by-admission s sixteen e .few-tasks)
+
+pub few-of-sheet : (s : List ℕ) → sheet-analysis s .«task_count» ≤ 16
+unfolding sheet-analysis
+few-of-sheet s = few-analysed (outcome (sheet-checks s)) (policy-of s) (tasks-of s) (λ e. by-reading s (reading-answer s ∙ e) .few-tasks)
+
+-- ---- by value
+
+module _ (s : Sheet) where
+  pub set-admitted : admission s ≡ Admitted → analysis-by Admitted (s .policy) (map task-in (records-of s)) ≡ set-analysis s
+  unfolding set-analysis
+  set-admitted e = rw e
+
+  pub set-refused : (r : Refusal) → admission s ≡ refused r → refused-analysis r ≡ set-analysis s
+  unfolding set-analysis analysis-by
+  set-refused r e = rw e
+
+module _ (s : List ℕ) where
+  pub sheet-admitted : reading s .answer ≡ Admitted
+      → analysis-by Admitted (reading s .sheet .policy) (map task-in (records-of (reading s .sheet))) ≡ sheet-analysis s
+  unfolding sheet-analysis sheet-with
+  sheet-admitted e =
+      ap (λ (r : Reading). analysis-by Admitted (r .sheet .policy) (map task-in (records-of (r .sheet)))) (admitted-reading s e)
+      ∙ ap (analysis-by Admitted (policy-of s)) (tasks-with (policy-of s) (tasks-of s))
+      ∙ ap (λ (a : Answer). analysis-by a (policy-of s) (tasks-of s)) (sym (sym (reading-answer s) ∙ e))
+
+  pub sheet-refused : (r : Refusal) → reading s .answer ≡ refused r → refused-analysis r ≡ sheet-analysis s
+  unfolding sheet-analysis analysis-by
+  sheet-refused r e = rw (← reading-answer s, e)

@@ -1,0 +1,70 @@
+-- Where each time stands: the eight places of task i begin at place 8i.
+use mathlib.Core.Bool.{Bool, true, false}
+use mathlib.Core.List.{List, [], _∷_, _++_}
+use mathlib.Core.Option.{Option, Option·getD}
+use mathlib.Core.Path.{_≡_, refl, sym, ap, _∙_}
+use Prim.Native.Nat.{ℕ, zero, suc, _+_, _-_, _*_, _≤_, _<_}
+use native.Mathlib.Nat.{add-zero, add-suc, suc-add, zero-add}
+use native.Mathlib.Omega.{arith}
+use lib.ListN.{length, getD, replicate, length-append, length-replicate, getD-replicate, List·getD-append}
+use lib.Seq.{getD-append-add}
+use Rattle.theory.specs.Tasks.{Task, task-at, frame-count}
+use Rattle.theory.specs.Analysis.{response-of, passes}
+use Rattle.analysis.specs.Times.{place-of, times-from, places-by, places-of, places-from}
+
+eight : (b : Bool) (l : List ℕ) → length l ≤ 8 → length (places-by b l) ≡ 8
+unfolding places-by
+eight true l h = simp (length-append, length-replicate) (omega arith)
+eight false l h = refl
+
+module _ (set : List Task) (p : ℕ) where
+  pub length-times : (k n : ℕ) → length (times-from set p k n) ≡ n
+  unfolding times-from
+  length-times k zero = refl
+  length-times k (suc n) = ap suc (length-times (suc k) n)
+
+  time-in : (k n j : ℕ) → j < n → getD (times-from set p k n) j 0 ≡ Option·getD (response-of set p (k + j)) 0
+  unfolding times-from
+  time-in k zero j h = let z : ⊥ = omega arith in absurd z
+  time-in k (suc n) zero h = rw (add-zero k)
+  time-in k (suc n) (suc j) h = time-in (suc k) n j (omega arith) ∙ ap (λ (m : ℕ). Option·getD (response-of set p m) 0) (suc-add k j ∙ sym (add-suc k j))
+
+  pub length-places : frame-count (task-at set p) ≤ 8 → length (places-of set p) ≡ 8
+  unfolding places-of
+  length-places h = eight (passes set p) (times-from set p 0 (frame-count (task-at set p))) (rw (length-times 0 (frame-count (task-at set p))) h)
+
+  -- a task that passes
+  pub time-of-passing : passes set p ≡ true → (k : ℕ) → k < frame-count (task-at set p) → getD (places-of set p) k 0 ≡ Option·getD (response-of set p k) 0
+  unfolding places-of places-by
+  time-of-passing e k h =
+      rw e (List·getD-append (times-from set p 0 (frame-count (task-at set p))) _ 0 k (rw (length-times 0 (frame-count (task-at set p))) h)
+      ∙ time-in 0 (frame-count (task-at set p)) k h ∙ ap (λ (m : ℕ). Option·getD (response-of set p m) 0) (zero-add k))
+
+  -- one that does not
+  pub time-of-missed : passes set p ≡ false → (k : ℕ) → k < 8 → getD (places-of set p) k 0 ≡ 0
+  unfolding places-of places-by
+  time-of-missed e k h = rw e (getD-replicate 8 k 0 0 h)
+
+module _ (order : List ℕ) (set : List Task) (small : (p : ℕ) → frame-count (task-at set p) ≤ 8) where
+  pub length-all : (i n : ℕ) → length (places-from order set i n) ≡ 8 * n
+  unfolding places-from
+  length-all i zero = refl
+  length-all i (suc n) =
+      rw (length-append (places-of set (place-of order i)) (places-from order set (suc i) n), length-places set (place-of order i) (small (place-of order i)), length-all (suc i) n)
+      (omega arith)
+
+  -- place k of the eight of the task j behind the first
+  pub time-at : (i n j k : ℕ) → j < n → k < 8
+      → getD (places-from order set i n) (8 * j + k) 0 ≡ getD (places-of set (place-of order (i + j))) k 0
+  unfolding places-from
+  time-at i zero j k hj hk = let z : ⊥ = omega arith in absurd z
+  time-at i (suc n) zero k hj hk =
+      rw (add-zero i, zero-add k) (List·getD-append (places-of set (place-of order i)) _ 0 k (rw (length-places set (place-of order i) (small _)) hk))
+  time-at i (suc n) (suc j) k hj hk =
+      ap (λ (m : ℕ). getD (places-of set (place-of order i) ++ places-from order set (suc i) n) m 0) behind
+      ∙ getD-append-add (places-of set (place-of order i)) (places-from order set (suc i) n) (8 * j + k) 0
+      ∙ time-at (suc i) n j k (omega arith) hk
+      ∙ ap (λ (m : ℕ). getD (places-of set (place-of order m)) k 0) (suc-add i j ∙ sym (add-suc i j))
+    where
+      behind : 8 * suc j + k ≡ length (places-of set (place-of order i)) + (8 * j + k)
+      behind = rw (length-places set (place-of order i) (small (place-of order i))) (omega arith)

@@ -1,0 +1,58 @@
+-- `analyse_bytes` meets its contract.
+use mathlib.Core.Path.{sym, ap, _∙_}
+use Rattle.sheet.proofs.RoundTrip.{admitted-reading-admits}
+use Rattle.analysis.proofs.Entries.{sheet-admitted, sheet-refused}
+use mathlib.Core.List.{map}
+use Rattle.sheet.specs.Tasks.{task-in, records-of}
+use Rattle.sheet.specs.declared.Reading.{Reading}
+use Rattle.sheet.specs.declared.Answer.the-variants.{Admitted}
+use Rattle.analysis.specs.Answers.{analysis-by}
+use borrow.Author.Needs.{needs}
+use Rattle.analysis.proofs.analyse_bytes.Statement.{statement}
+use Rattle.analysis.proofs.analyse_bytes.Tie as tie
+use Rattle.analysis.proofs.analyse_bytes.Reads as reads
+use Rattle.analysis.proofs.analyse_bytes.Lts as lts
+use Rattle.analysis.proofs.analysed.Reads as analysed-reads
+use Rattle.analysis.proofs.refused.Reads as refused-reads
+use Rattle.reader.proofs.read_sheet.Reads as read-sheet-reads
+
+read-sheet-requires : tie.Need-read-sheet-requires
+read-sheet-requires c κs = search needs
+
+enum-told : tie.Need-enum-told
+enum-told c = search needs
+
+analysed-requires : tie.Need-analysed-requires
+analysed-requires c κs =
+    let e = c .before .before .before .read-sheet .ensures in
+    rw e (admitted-reading-admits _ (ap (λ (r : Reading). r .answer) (sym e) ∙ c .enum-told .given .1))
+
+enum-known-answer : tie.Need-enum-known-answer
+enum-known-answer c = search needs
+
+refused-requires : tie.Need-refused-requires
+refused-requires c κs = search needs
+
+returns : tie.Need-returns
+returns c =
+    let e = c .before .before .before .before .read-sheet .ensures in
+    c .analysed .ensures
+    ∙ ap (λ (r : Reading). analysis-by Admitted (r .sheet .policy) (map task-in (records-of (r .sheet)))) e
+    ∙ sheet-admitted _ (ap (λ (r : Reading). r .answer) (sym e) ∙ c .before .enum-told .given .1)
+
+returns-2 : tie.Need-returns-2
+returns-2 c =
+    let e = c .before .before .before .before .before .read-sheet .ensures in
+    c .refused .ensures ∙ sheet-refused _ _ (ap (λ (r : Reading). r .answer) (sym e) ∙ c .before .before .answer .given .1)
+
+pub analyse-bytes-spec : {M : Type 1} → statement M
+analyse-bytes-spec =
+    tie.close
+    (tie.spec
+    read-sheet-requires
+    enum-told
+    analysed-requires
+    enum-known-answer
+    refused-requires
+    returns
+    returns-2)

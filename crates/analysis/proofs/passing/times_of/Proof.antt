@@ -1,0 +1,112 @@
+-- `times_of` meets its contract: after k frames, the first k times stand.
+use mathlib.Core.Path.{_≡_, refl, sym, ap, _∙_}
+use Prim.Native.Nat.{ℕ, _≤_, _<_, _-_, _+_}
+use mathlib.Core.Logic.{⊎-elim}
+use native.Mathlib.Omega.{arith}
+use lib.ListN.{length, getD, take}
+use Rattle.response.specs.Response.{response-to}
+use Rattle.analysis.specs.Rows.{as-written}
+use Rattle.analysis.proofs.Filled.{filled, none-filled}
+use Rattle.analysis.proofs.Rows.{times-in, up-to-more, up-to-length, up-to-all, places-to}
+use borrow.Author.Needs.{needs}
+use Rattle.analysis.proofs.passing.times_of.Statement.{statement}
+use Rattle.analysis.proofs.passing.times_of.Tie as tie
+use Rattle.analysis.proofs.passing.times_of.Reads as reads
+use Rattle.analysis.proofs.passing.times_of.Lts as lts
+use Rattle.analysis.proofs.passing.written.Reads as written-reads
+use Rattle.response.proofs.respond.Reads as respond-reads
+use Rattle.sheet.proofs.frames_in.Reads as frames-in-reads
+
+abbrev Inv-loop : tie.InvT-loop
+Inv-loop above blocked largest known deadline frames count times₀ k₀ times k =
+    (k ≤ count) × (count ≤ 8) × (length frames ≡ 8) × (times ≡ filled 8 0 (times-in above blocked deadline (take count frames)) k)
+
+abbrev μ-loop : tie.MeasureT-loop
+μ-loop above blocked largest known deadline frames count times₀ k₀ times k = count - k
+
+frames-in-requires : tie.Need-frames-in-requires Inv-loop μ-loop
+frames-in-requires c κs = search needs
+
+loop-holds : tie.Need-loop-holds Inv-loop μ-loop
+loop-holds c = (search needs, omega arith, c .frames-in .ensures .1, none-filled 8 0 _)
+
+mul-c : tie.Need-mul-c Inv-loop μ-loop
+mul-c c = search needs
+
+array-read-c : tie.Need-array-read-c Inv-loop μ-loop
+array-read-c c = search needs
+
+mul-times : tie.Need-mul-times Inv-loop μ-loop
+mul-times c = search needs
+
+array-write-times : tie.Need-array-write-times Inv-loop μ-loop
+array-write-times c = search needs
+
+respond-requires : tie.Need-respond-requires Inv-loop μ-loop
+respond-requires c κs = search needs
+
+written-requires : tie.Need-written-requires Inv-loop μ-loop
+written-requires c κs = search needs
+
+mul-times-2 : tie.Need-mul-times-2 Inv-loop μ-loop
+mul-times-2 c = search needs
+
+array-write-times-2 : tie.Need-array-write-times-2 Inv-loop μ-loop
+array-write-times-2 c = search needs
+
+add-k : tie.Need-add-k Inv-loop μ-loop
+add-k c = search needs
+
+loop-less : tie.Need-loop-less Inv-loop μ-loop
+loop-less c = search needs
+
+loop-again : tie.Need-loop-again Inv-loop μ-loop
+loop-again c =
+    let a = c .before .before .before .before .before .args in
+    let n = c .before .before .before .frames-in .result in
+    let k = c .before .before .loop .k in
+    let small : n ≤ 8 = omega arith in
+    let inside : k < n = omega arith in
+    let room = c .before .before .loop .inv .2 in
+    let so-far = c .before .before .loop .inv .3 in
+    let more = up-to-more (a .above) (a .blocked) (a .task .deadline) n (a .task .frames) small room (c .before .before .loop .times) k in (
+      search needs,
+      small,
+      room,
+      ⊎-elim
+          (λ w. w .1 ∙ more (a .known) inside so-far (c .before .before .before .before .before .pre ∙ ap (λ (x : ℕ). as-written (response-to (a .above) (a .blocked) x (a .task .deadline))) (sym (w .0 .taken))))
+          (λ w. w .3 ∙ more _ inside so-far (w .2 .ensures ∙ ap as-written (w .1 .ensures)))
+          (c .if1 .came),
+    )
+
+returns : tie.Need-returns Inv-loop μ-loop
+returns c =
+    let a = c .before .before .before .before .args in
+    let n = c .before .before .frames-in .result in
+    let small : n ≤ 8 = omega arith in
+    let done : n ≡ c .before .loop .k = omega arith in
+    let room = c .before .loop .inv .2 in
+    c .before .loop .inv .3
+    ∙ up-to-all (a .above) (a .blocked) (a .task .deadline) n (a .task .frames) small room (c .before .loop .k) done
+    ∙ places-to (a .above) (a .blocked) (a .task) n (c .before .before .frames-in .ensures .0) room
+
+pub times-of-spec : {M : Type 1} → statement M
+times-of-spec =
+    tie.close
+    (tie.spec
+    Inv-loop
+    μ-loop
+    frames-in-requires
+    loop-holds
+    mul-c
+    array-read-c
+    mul-times
+    array-write-times
+    respond-requires
+    written-requires
+    mul-times-2
+    array-write-times-2
+    add-k
+    loop-less
+    loop-again
+    returns)

@@ -1,0 +1,75 @@
+-- `verdict_of` meets its contract: every task before place p passes.
+use mathlib.Core.Path.{_≡_, _∙_}
+use lib.ListN.{length}
+use Prim.Native.Nat.{_≤_, _-_}
+use native.Mathlib.Omega.{arith}
+use Rattle.analysis.proofs.PlaceOf.{tasks-count}
+use Rattle.order.specs.Ordered.{tasks-of}
+use borrow.Author.Needs.{needs}
+use Rattle.analysis.proofs.Passed.{Passed, none-passed, says-no, says-yes, one-passed, all-passed, first-missed}
+use Rattle.analysis.proofs.verdict.verdict_of.Statement.{statement}
+use Rattle.analysis.proofs.verdict.verdict_of.Tie as tie
+
+abbrev Inv-loop : tie.InvT-loop
+Inv-loop o rows count p₀ p = (p ≤ count) × (count ≤ 16) × Passed (tasks-of o) p
+
+abbrev μ-loop : tie.MeasureT-loop
+μ-loop o rows count p₀ p = count - p
+
+in-use : (c : tie.After-tasks-in Inv-loop μ-loop) → length (tasks-of (c .before .before .args .o)) ≡ c .tasks-in .result
+in-use c = tasks-count _ _ (c .tasks-in .ensures .0) (c .tasks-in .ensures .1)
+
+tasks-in-requires : tie.Need-tasks-in-requires Inv-loop μ-loop
+tasks-in-requires c κs = search needs
+
+loop-holds : tie.Need-loop-holds Inv-loop μ-loop
+loop-holds c = (search needs, omega arith, none-passed _)
+
+mul-row : tie.Need-mul-row Inv-loop μ-loop
+mul-row c = search needs
+
+array-copy-out-row : tie.Need-array-copy-out-row Inv-loop μ-loop
+array-copy-out-row c = search needs
+
+missed-requires : tie.Need-missed-requires Inv-loop μ-loop
+missed-requires c κs = omega (arith, in-use (c .before .before .before .before .before))
+
+returns : tie.Need-returns Inv-loop μ-loop
+returns c =
+    let h = in-use (c .before .before .before .before .before .before) in
+    let here = says-no _ _ _ (c .before .before .before .before .before .before .before .before .pre) (omega arith) (c .before .if1 .taken) in
+    c .missed .ensures ∙ first-missed _ _ _ (c .before .before .before .before .before .loop .inv .2) (omega arith) here
+
+add-p : tie.Need-add-p Inv-loop μ-loop
+add-p c = search needs
+
+loop-less : tie.Need-loop-less Inv-loop μ-loop
+loop-less c = search needs
+
+loop-again : tie.Need-loop-again Inv-loop μ-loop
+loop-again c =
+    let h = in-use (c .before .before .before .before .before) in
+    let here = says-yes _ _ _ (c .before .before .before .before .before .before .before .pre) (omega arith) (c .if1 .left) in
+    (search needs, search needs, one-passed _ _ (c .before .before .before .before .loop .inv .2) here)
+
+returns-2 : tie.Need-returns-2 Inv-loop μ-loop
+returns-2 c =
+    let h = in-use (c .before .before) in
+    all-passed _ _ _ (c .before .loop .inv .2) (omega arith)
+
+pub verdict-of-spec : {M : Type 1} → statement M
+verdict-of-spec =
+    tie.close
+    (tie.spec
+    Inv-loop
+    μ-loop
+    tasks-in-requires
+    loop-holds
+    mul-row
+    array-copy-out-row
+    missed-requires
+    returns
+    add-p
+    loop-less
+    loop-again
+    returns-2)

@@ -1,0 +1,46 @@
+// The verdict: holds, or the first task in priority order that does not pass, with its blocker.
+ghost use mathlib.Core.Path.{_≡_};
+ghost use Prim.Native.Nat.{_<_};
+ghost use lib.ListN.{length};
+ghost use Rattle.theory.specs.Analysis.{blocker, verdict};
+ghost use Rattle.order.specs.Ordered.{tasks-of};
+ghost use Rattle.analysis.specs.Times.{number-at, blocker-number, verdict-number};
+ghost use Rattle.analysis.specs.Rows.{rows-of};
+ghost use Rattle.analysis.specs.Ready.{numbers-of};
+ghost use Rattle.analysis.specs.declared.Outcome.the-variants.{Missed};
+use crate::Outcome;
+use crate::Row;
+use order::Blocker;
+use order::Ordered;
+
+// The answer that names the task at place p, and its blocker.
+fn missed(o: Ordered, p: usize) -> Outcome
+    requires { ⌜ p < length (tasks-of o) ⌝ }
+    ensures { λ r. ⌜ r ≡ Missed (number-at (numbers-of o) p) (blocker-number (numbers-of o) (blocker (tasks-of o) p)) ⌝ }
+{
+    let numbers = o.numbers;
+    let number = numbers[p];
+    match order::blocker_of(o, p as u32) {
+        Blocker::At(q) => {
+            let place = q as usize;
+            Outcome::Missed(number, Blocker::At(numbers[place]))
+        }
+        Blocker::Nobody => Outcome::Missed(number, Blocker::Nobody),
+    }
+}
+
+// The set holds if all tasks pass.
+pub fn verdict_of(o: Ordered, rows: [Row; 16]) -> Outcome
+    requires { ⌜ rows ≡ rows-of (tasks-of o) ⌝ }
+    ensures { λ r. ⌜ r ≡ verdict-number (numbers-of o) (verdict (tasks-of o)) ⌝ }
+{
+    let tasks = o.tasks;
+    let count = sheet::tasks_in(o.count, tasks);
+    for p in 0..count {
+        let row = rows[p];
+        if !row.passes {
+            return missed(o, p);
+        }
+    }
+    Outcome::Holds
+}
