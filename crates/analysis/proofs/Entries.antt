@@ -58,7 +58,7 @@ module _ (policy : ℕ) (tasks : List Task) (counted : Each FramesCounted tasks)
       go (no n) =
           rw (List·getD-eq-default (ordered-set policy tasks) (record { period = 0; deadline = 0; lock = 0; frames = [] }) {n = p} (omega (arith, ordered-length policy tasks))) zero-le
 
-  times-long : length (times-of policy tasks) ≡ 8 * length tasks
+  pub times-long : length (times-of policy tasks) ≡ 8 * length tasks
   unfolding times-of
   times-long = length-all _ _ small-ordered 0 (length tasks)
 
@@ -105,7 +105,7 @@ unfolding delivered-outcome delivered analysis-by
 placed-well policy tasks room h l =
     rw (le-ltb (length room) (8 * length tasks) h) (refl, ap (λ (x : List ℕ). x ++ drop (8 * length tasks) room) (take-at (times-of policy tasks) _ (8 * length tasks) l))
 
-none-applies : outcome [] ≡ Admitted
+pub none-applies : outcome [] ≡ Admitted
 unfolding outcome
 none-applies = refl
 

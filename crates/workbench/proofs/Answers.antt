@@ -1,0 +1,122 @@
+-- What the entry returns and leaves, by the analysis of the sheet.
+use mathlib.Core.Bool.{Bool, true, false}
+use mathlib.Core.List.{List, [], _∷_, _++_}
+use mathlib.Core.Option.{Option, none, some}
+use mathlib.Core.Path.{_≡_, refl, sym, ap, _∙_}
+use Prim.Native.Nat.{ℕ, zero, suc, _+_, _*_, _≤_, _<_, zero-le}
+use native.Mathlib.Decide.{decLt}
+use native.Mathlib.Omega.{arith}
+use borrow.Author.Tests.{lt-ltb, le-ltb}
+use lib.Dec.{lit<}
+use lib.ListN.{length, getD, take, drop, List·getD-eq-default}
+use lib.Seq.{take-at}
+use Rattle.theory.specs.Tasks.{Task}
+use Rattle.theory.specs.Analysis.{Verdict, holds, missed, verdict}
+use Rattle.sheet.specs.Refusals.{number-of}
+use Rattle.sheet.specs.Admission.{outcome}
+use Rattle.sheet.specs.Reading.{sheet-checks, policy-of, tasks-of}
+use Rattle.sheet.specs.declared.Answer.{Answer}
+use Rattle.sheet.specs.declared.Answer.the-variants.{Admitted}
+use Rattle.sheet.specs.declared.Answer.the-variants.{Refused as refused}
+use Rattle.sheet.specs.declared.Refusal.{Refusal}
+use Rattle.sheet.specs.declared.Refusal.the-variants.{Length, CheckWord, Version, Policy, BitSet, TaskCount, FrameCount, Records, IllFormed, Lock, NotMonotonic, Room}
+use Rattle.sheet.proofs.Checks.{applies, passed-over, admitted-first, refused-first}
+use Rattle.sheet.proofs.Carried.{by-reading, reading-answer}
+use Rattle.order.specs.Order.{priority-order, ordered-set}
+use Rattle.order.proofs.Order.{Permutes, order-permutes}
+use Rattle.analysis.specs.Times.{number-at, blocker-number, verdict-number, outcome-of, times-of}
+use Rattle.analysis.specs.Answers.{blocker-code, code, outcome-by, refused-analysis, analysis-by, sheet-analysis}
+use Rattle.analysis.proofs.Entries.{times-long, none-applies}
+use Rattle.workbench.specs.Entry.{four-bytes, entry-answer, entry-number, left-by, entry-left}
+
+-- ---- the number is small
+
+number-small : (n : ℕ) (order : List ℕ) → Permutes n order → n ≤ 16 → (p : ℕ) → number-at order p < 16
+unfolding number-at
+number-small n order h l p = go (decLt p n)
+  where
+    go : Dec (p < n) → getD order p 0 < 16
+    go (yes i) = omega (arith, h .each-place p i)
+    go (no i) = rw (List·getD-eq-default order 0 {n = p} (omega (arith, h .same-length))) (lit< tt)
+
+blocker-small : (n : ℕ) (order : List ℕ) → Permutes n order → n ≤ 16 → (b : Option ℕ) → blocker-code (blocker-number order b) ≤ 16
+unfolding blocker-number
+blocker-small n order h l none = omega arith
+blocker-small n order h l (some p) = omega (arith, number-small n order h l p)
+
+verdict-small : (n : ℕ) (order : List ℕ) → Permutes n order → n ≤ 16 → (v : Verdict) → code (verdict-number order v) < 1000
+unfolding verdict-number
+verdict-small n order h l holds = lit< tt
+verdict-small n order h l (missed p b) = omega (arith, number-small n order h l p, blocker-small n order h l b)
+
+refusal-small : (r : Refusal) → number-of r < 1000
+refusal-small Length = lit< tt
+refusal-small CheckWord = lit< tt
+refusal-small Version = lit< tt
+refusal-small Policy = lit< tt
+refusal-small BitSet = lit< tt
+refusal-small TaskCount = lit< tt
+refusal-small (FrameCount i) = lit< tt
+refusal-small Records = lit< tt
+refusal-small (IllFormed i) = lit< tt
+refusal-small (Lock i) = lit< tt
+refusal-small (NotMonotonic i) = lit< tt
+refusal-small Room = lit< tt
+
+-- ---- by the answer of the sheet's checks
+
+module _ (s room : List ℕ) where
+  abbrev n : ℕ
+  n = length (tasks-of s)
+
+  admits : outcome (sheet-checks s) ≡ Admitted → 4 * (8 * n) ≤ length room → entry-answer s (length room) ≡ Admitted
+  unfolding entry-answer
+  admits e h = admitted-first (sheet-checks s) _ e ∙ passed-over _ Room [] (le-ltb (length room) (4 * (8 * n)) h) ∙ none-applies
+
+  lacks : outcome (sheet-checks s) ≡ Admitted → length room < 4 * (8 * n) → entry-answer s (length room) ≡ refused Room
+  unfolding entry-answer
+  lacks e h = admitted-first (sheet-checks s) _ e ∙ applies _ Room [] (lt-ltb (length room) (4 * (8 * n)) h)
+
+  turns : (r : Refusal) → outcome (sheet-checks s) ≡ refused r → entry-answer s (length room) ≡ refused r
+  unfolding entry-answer
+  turns r e = refused-first (sheet-checks s) _ r e
+
+  done-by : (a : Answer) → outcome (sheet-checks s) ≡ a → 32 * analysis-by a (policy-of s) (tasks-of s) .«task_count» ≤ length room
+      → (code (analysis-by a (policy-of s) (tasks-of s) .outcome) ≡ entry-number s room)
+      × (four-bytes (take (8 * analysis-by a (policy-of s) (tasks-of s) .«task_count») (analysis-by a (policy-of s) (tasks-of s) .times))
+      ++ drop (32 * analysis-by a (policy-of s) (tasks-of s) .«task_count») room ≡ entry-left s room)
+  unfolding analysis-by refused-analysis entry-number entry-left outcome-by left-by four-bytes
+  done-by Admitted e h =
+      let same : 32 * n ≡ 4 * (8 * n) = omega arith in
+      rw (admits e (omega arith), take-at (times-of (policy-of s) (tasks-of s)) _ (8 * n) (times-long (policy-of s) (tasks-of s) (by-reading s (reading-answer s ∙ e) .counted)), same)
+      (refl, refl)
+  done-by (refused r) e h = rw (turns r e) (refl, refl)
+
+  short-by : (a : Answer) → outcome (sheet-checks s) ≡ a → length room < 32 * analysis-by a (policy-of s) (tasks-of s) .«task_count»
+      → (12 ≡ entry-number s room) × (room ≡ entry-left s room)
+  unfolding analysis-by refused-analysis entry-number entry-left outcome-by left-by
+  short-by Admitted e h = rw (lacks e (omega arith)) (refl, refl)
+  short-by (refused r) e h = let z : ⊥ = omega arith in absurd z
+
+  small-by : (a : Answer) → outcome (sheet-checks s) ≡ a → code (analysis-by a (policy-of s) (tasks-of s) .outcome) < 1000
+  unfolding analysis-by refused-analysis outcome-of
+  small-by Admitted e =
+      verdict-small n (priority-order (policy-of s) (tasks-of s)) (order-permutes (policy-of s) (tasks-of s)) (by-reading s (reading-answer s ∙ e) .few-tasks)
+      (verdict (ordered-set (policy-of s) (tasks-of s)))
+  small-by (refused r) e = refusal-small r
+
+  -- the room is there
+  pub done : 32 * sheet-analysis s .«task_count» ≤ length room
+      → (code (sheet-analysis s .outcome) ≡ entry-number s room)
+      × (four-bytes (take (8 * sheet-analysis s .«task_count») (sheet-analysis s .times)) ++ drop (32 * sheet-analysis s .«task_count») room ≡ entry-left s room)
+  unfolding sheet-analysis
+  done h = done-by (outcome (sheet-checks s)) refl h
+
+  -- it is not
+  pub short : length room < 32 * sheet-analysis s .«task_count» → (12 ≡ entry-number s room) × (room ≡ entry-left s room)
+  unfolding sheet-analysis
+  short h = short-by (outcome (sheet-checks s)) refl h
+
+pub small : (s : List ℕ) → code (sheet-analysis s .outcome) < 1000
+unfolding sheet-analysis
+small s = small-by s [] (outcome (sheet-checks s)) refl

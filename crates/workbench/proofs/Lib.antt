@@ -1,0 +1,3 @@
+-- Lemmas of the C entry.
+pub mod Four
+pub mod Answers
