@@ -40,7 +40,7 @@ use Rattle.analysis.specs.declared.Outcome.the-variants.{Refused}
 use Rattle.analysis.specs.declared.Analysis.{Analysis}
 use Rattle.analysis.proofs.TimesAt.{length-all}
 
-few : (ts : List Task) → Each FramesCounted ts → (p : ℕ) → frame-count (task-at ts p) ≤ 8
+pub few : (ts : List Task) → Each FramesCounted ts → (p : ℕ) → frame-count (task-at ts p) ≤ 8
 unfolding task-at frame-count
 few [] no-task p = zero-le
 few (t ∷ ts) (task-more h e) zero = h .1
