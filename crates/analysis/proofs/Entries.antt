@@ -49,7 +49,7 @@ few (t ∷ ts) (task-more h e) (suc p) = few ts e p
 -- ---- the ordered copy of an admitted set
 
 module _ (policy : ℕ) (tasks : List Task) (counted : Each FramesCounted tasks) where
-  small-ordered : (p : ℕ) → frame-count (task-at (ordered-set policy tasks) p) ≤ 8
+  pub small-ordered : (p : ℕ) → frame-count (task-at (ordered-set policy tasks) p) ≤ 8
   unfolding task-at frame-count
   small-ordered p = go (decLt p (length tasks))
     where

@@ -1,0 +1,230 @@
+// The report: a proved function from a sheet's bytes to the report's text.
+ghost use mathlib.Core.List.{[], _∷_, _++_, map};
+ghost use mathlib.Core.Path.{_≡_};
+ghost use Prim.Native.Nat.{_+_, _*_, _≤_, _<_};
+ghost use lib.ListN.{length};
+ghost use Rattle.report_text.specs.Words.{decimal, line};
+ghost use Rattle.report_text.specs.Report.{blocker-word, first-line, report};
+ghost use Rattle.report_text.specs.Put.{Put, spaced, plain-line};
+ghost use Rattle.report_text.specs.Rows.{row-line, row-lines, Limited};
+ghost use Rattle.report_text.specs.Text.{text-of};
+use analysis::Outcome;
+use order::Blocker;
+use order::Ordered;
+use sheet::Sheet;
+
+// One byte more than the greatest sheet has: more need not be read to tell that a sheet is too long.
+pub const ENOUGH: usize = Sheet::GREATEST_SIZE + 1;
+
+// How long a report can be.
+pub const ROOM: usize = 2048;
+
+// The report's text: the first `length` bytes; the others are 0.
+pub struct Text {
+    pub length: usize,
+    pub bytes: [u8; ROOM],
+}
+
+fn put_byte(buffer: &mut [u8], at: usize, byte: u8) -> usize
+    requires { ⌜ at < length (now buffer) ⌝ }
+    ensures { λ r. ⌜ Put (now (buffer .entry)) at (byte ∷ []) (now (buffer .exit)) r ⌝ }
+{
+    buffer[at] = byte;
+    at + 1
+}
+
+fn put_word(buffer: &mut [u8], at: usize, word: &[u8]) -> usize
+    requires { ⌜ at + length (now word) ≤ length (now buffer) ⌝ }
+    ensures { λ r. ⌜ Put (now (buffer .entry)) at (now (word .entry)) (now (buffer .exit)) r ⌝ }
+{
+    let count = word.len();
+    for i in 0..count {
+        buffer[at + i] = word[i];
+    }
+    at + count
+}
+
+// The digit that stands for a number below ten.
+fn digit(n: u32) -> u8
+    requires { ⌜ n < 10 ⌝ }
+    ensures { λ r. ⌜ r ≡ 48 + n ⌝ }
+{
+    (48 + n) as u8
+}
+
+fn put_number(buffer: &mut [u8], at: usize, n: u32) -> usize
+    requires { ⌜ at + length (decimal n) ≤ length (now buffer) ⌝ }
+    ensures { λ r. ⌜ Put (now (buffer .entry)) at (decimal n) (now (buffer .exit)) r ⌝ }
+{
+    if n < 10 {
+        return put_byte(buffer, at, digit(n));
+    }
+    let next = put_number(buffer, at, n / 10);
+    put_byte(buffer, next, digit(n % 10))
+}
+
+// A number and the byte behind it: a space, or the line's end.
+fn put_number_and(buffer: &mut [u8], at: usize, n: u32, byte: u8) -> usize
+    requires { ⌜ at + 11 ≤ length (now buffer) ⌝ }
+    ensures { λ r. ⌜ Put (now (buffer .entry)) at (decimal n ++ (byte ∷ [])) (now (buffer .exit)) r ⌝ }
+{
+    let next = put_number(buffer, at, n);
+    put_byte(buffer, next, byte)
+}
+
+// Response times as the last words of a line.
+fn put_times(buffer: &mut [u8], at: usize, times: &[u32]) -> usize
+    requires { ⌜ (1 ≤ length (now times)) × (at + 11 * length (now times) ≤ length (now buffer)) ⌝ }
+    ensures { λ r. ⌜ Put (now (buffer .entry)) at (line (map decimal (now (times .entry)))) (now (buffer .exit)) r ⌝ }
+{
+    let last = times.len() - 1;
+    let mut next = at;
+    for k in 0..last {
+        next = put_number_and(buffer, next, times[k], b' ');
+    }
+    put_number_and(buffer, next, times[last], b'\n')
+}
+
+// The first words of a task's line.
+fn put_head(
+    buffer: &mut [u8],
+    at: usize,
+    number: u32,
+    period: u32,
+    deadline: u32,
+    blocked: u32,
+) -> usize
+    requires { ⌜ (number < 100) × (at + 36 ≤ length (now buffer)) ⌝ }
+    ensures { λ r. ⌜ Put (now (buffer .entry)) at (spaced (decimal number ∷ decimal period ∷ decimal deadline ∷ decimal blocked ∷ [])) (now (buffer .exit)) r ⌝ }
+{
+    let behind_number = put_number_and(buffer, at, number, b' ');
+    let behind_period = put_number_and(buffer, behind_number, period, b' ');
+    let behind_deadline = put_number_and(buffer, behind_period, deadline, b' ');
+    put_number_and(buffer, behind_deadline, blocked, b' ')
+}
+
+// The line of a task; a first time of 0 says that it does not pass.
+fn put_line(
+    buffer: &mut [u8],
+    at: usize,
+    number: u32,
+    period: u32,
+    deadline: u32,
+    blocked: u32,
+    times: &[u32],
+) -> usize
+    requires { ⌜ (number < 100) × (1 ≤ length (now times)) × (length (now times) ≤ 8) × (at + 124 ≤ length (now buffer)) ⌝ }
+    ensures { λ r. ⌜ Put (now (buffer .entry)) at (plain-line number period deadline blocked (now (times .entry))) (now (buffer .exit)) r ⌝ }
+{
+    let next = put_head(buffer, at, number, period, deadline, blocked);
+    if times[0] == 0 {
+        return put_word(buffer, next, b"missed\n");
+    }
+    put_times(buffer, next, times)
+}
+
+// A word, a number and the byte behind it.
+fn put_word_and_number(buffer: &mut [u8], at: usize, word: &[u8], n: u32, byte: u8) -> usize
+    requires { ⌜ at + (length (now word) + 11) ≤ length (now buffer) ⌝ }
+    ensures { λ r. ⌜ Put (now (buffer .entry)) at (now (word .entry) ++ (decimal n ++ (byte ∷ []))) (now (buffer .exit)) r ⌝ }
+{
+    let next = put_word(buffer, at, word);
+    put_number_and(buffer, next, n, byte)
+}
+
+// The last word of a miss.
+fn put_blocker(buffer: &mut [u8], at: usize, blocker: Blocker) -> usize
+    requires { ⌜ at + 11 ≤ length (now buffer) ⌝ }
+    ensures { λ r. ⌜ Put (now (buffer .entry)) at (blocker-word blocker ++ (0x0A ∷ [])) (now (buffer .exit)) r ⌝ }
+{
+    match blocker {
+        Blocker::At(number) => put_number_and(buffer, at, number, b'\n'),
+        Blocker::Nobody => put_word(buffer, at, b"-\n"),
+    }
+}
+
+fn put_missed(buffer: &mut [u8], at: usize, count: u32, number: u32, blocker: Blocker) -> usize
+    requires { ⌜ at + 40 ≤ length (now buffer) ⌝ }
+    ensures { λ r. ⌜ Put (now (buffer .entry)) at (first-line (Outcome.Missed number blocker) count) (now (buffer .exit)) r ⌝ }
+{
+    let behind_count = put_word_and_number(buffer, at, b"missed ", count, b' ');
+    let behind_number = put_number_and(buffer, behind_count, number, b' ');
+    put_blocker(buffer, behind_number, blocker)
+}
+
+fn put_first_line(buffer: &mut [u8], at: usize, outcome: Outcome, count: u32) -> usize
+    requires { ⌜ at + 40 ≤ length (now buffer) ⌝ }
+    ensures { λ r. ⌜ Put (now (buffer .entry)) at (first-line outcome count) (now (buffer .exit)) r ⌝ }
+{
+    match outcome {
+        Outcome::Holds => put_word_and_number(buffer, at, b"holds ", count, b'\n'),
+        Outcome::Missed(number, blocker) => put_missed(buffer, at, count, number, blocker),
+        Outcome::Refused(refusal) => put_word_and_number(
+            buffer,
+            at,
+            b"refused ",
+            refusal.number(),
+            b'\n',
+        ),
+    }
+}
+
+// The line of the task at place p, from the times of all tasks.
+fn put_task(buffer: &mut [u8], at: usize, o: Ordered, p: u32, times: &[u32]) -> usize
+    requires { ⌜ (Limited o) × (p < o .count) × (length (now times) ≡ 128) × (at + 124 ≤ length (now buffer)) ⌝ }
+    ensures { λ r. ⌜ Put (now (buffer .entry)) at (row-line o (now (times .entry)) p) (now (buffer .exit)) r ⌝ }
+{
+    let place = p as usize;
+    let number = o.numbers[place];
+    let task = o.tasks[place];
+    let blocked = order::blocking(o, p);
+    let from = 8 * (number as usize);
+    let end = from + task.frame_count as usize;
+    put_line(
+        buffer,
+        at,
+        number,
+        task.period,
+        task.deadline,
+        blocked,
+        &times[from..end],
+    )
+}
+
+// The lines of the tasks in priority order.
+fn put_tasks(buffer: &mut [u8], at: usize, o: Ordered, times: &[u32]) -> usize
+    requires { ⌜ (Limited o) × (length (now times) ≡ 128) × (at + 124 * o .count ≤ length (now buffer)) ⌝ }
+    ensures { λ r. ⌜ Put (now (buffer .entry)) at (row-lines o (now (times .entry)) (o .count)) (now (buffer .exit)) r ⌝ }
+{
+    let count = o.count;
+    let mut next = at;
+    for p in 0..count {
+        next = put_task(buffer, next, o, p, times);
+    }
+    next
+}
+
+fn assembled(outcome: Outcome, count: u32, o: Ordered, times: &[u32]) -> Text
+    requires { ⌜ (Limited o) × (length (now times) ≡ 128) ⌝ }
+    ensures { λ r. ⌜ r ≡ text-of (first-line outcome count ++ row-lines o (now (times .entry)) (o .count)) ⌝ }
+{
+    let mut bytes = [0u8; ROOM];
+    let first = put_first_line(&mut bytes, 0, outcome, count);
+    let end = put_tasks(&mut bytes, first, o, times);
+    Text {
+        length: end,
+        bytes: bytes,
+    }
+}
+
+// The report on a sheet.
+pub fn report_text(sheet: &[u8]) -> Text
+    ensures { λ r. ⌜ r ≡ text-of (report (now (sheet .entry))) ⌝ }
+{
+    let analysis = analysis::analyse_bytes(sheet);
+    let reading = reader::read_sheet(sheet);
+    let o = order::in_order(reading.sheet);
+    let outcome = analysis.outcome;
+    let times = analysis.times;
+    assembled(outcome, analysis.task_count, o, &times)
+}

@@ -1,0 +1,231 @@
+-- The one number of an answer fits 32 bits: refusals name tasks below 32, and what else is answered is small.
+use mathlib.Core.Bool.{Bool, true, false}
+use mathlib.Core.List.{List, [], _∷_, _++_, map}
+use mathlib.Core.Option.{none, some}
+use mathlib.Core.Path.{_≡_, refl, sym, subst, ap, _∙_}
+use Prim.Native.Nat.{ℕ, zero, suc, _+_, _*_, _≤_, _<_, _^_, min, zero-le}
+use native.Mathlib.Decide.{decLt}
+use native.Mathlib.Nat.{le-of-lt, min-le-left, min-le-right}
+use native.Mathlib.Omega.{arith}
+use lib.Dec.{ltb, lit<}
+use lib.ListN.{length, getD, take, drop, replicate, length-map, length-take, length-replicate, List·getD-eq-default}
+use lib.Seq.{length-take-le}
+use Rattle.bits.specs.Packed.{bits-of}
+use Rattle.check_word.specs.Division.{body}
+use Rattle.sheet.specs.Constants.{most-tasks, version-width, policy-width, task-count-width}
+use Rattle.sheet.specs.Tasks.{task-in, records-of, blank-record}
+use Rattle.sheet.specs.Refusals.{number-of, task-of-refusal}
+use Rattle.sheet.specs.Fields.{unpacked}
+use Rattle.sheet.specs.Layout.{header-in, tasks-in, records-in, record-width, frame-count-in}
+use Rattle.sheet.specs.Admission.{Check, _⇒_, outcome, admission, list-checks, policy-check, task-count-check, frame-count-check, frame-count-checks, task-checks}
+use Rattle.sheet.specs.Reading.{sheet-checks, layout-checks, policy-of, tasks-of}
+use Rattle.sheet.specs.Writing.{sheet-bytes, writing, written, written-by}
+use Rattle.sheet.specs.declared.Answer.{Answer}
+use Rattle.sheet.specs.declared.Answer.the-variants.{Admitted, Refused}
+use Rattle.sheet.specs.declared.Refusal.{Refusal}
+use Rattle.sheet.specs.declared.Refusal.the-variants.{Length, CheckWord, Version, Policy, BitSet, TaskCount, FrameCount, Records, IllFormed, Lock, NotMonotonic, Room}
+use Rattle.sheet.specs.declared.Sheet.{Sheet}
+use Rattle.sheet.specs.declared.Written.{Written}
+use Rattle.sheet.specs.declared.Task.{Task as Record}
+use Rattle.theory.specs.Tasks.{Task}
+use Rattle.theory.specs.Analysis.{Verdict, holds, missed, verdict}
+use Rattle.order.specs.Order.{priority-order, ordered-set}
+use Rattle.order.proofs.Order.{order-permutes}
+use Rattle.analysis.specs.Times.{number-at, blocker-number, verdict-number, outcome-of}
+use Rattle.analysis.specs.Answers.{set-answer, set-outcome, outcome-by, room-check}
+use Rattle.analysis.specs.declared.Outcome.{Outcome}
+use Rattle.analysis.proofs.Numbering.{number-in}
+use Rattle.sheet.proofs.Carried.{by-reading}
+use Rattle.sheet.proofs.Carried.{reading-answer as answer-read}
+use Rattle.sheet.proofs.Packing.{value-taken}
+use Rattle.sheet.proofs.RecordBits.{length-tasks-in}
+use Rattle.sheet.proofs.Passed.{both-passed}
+use Rattle.sheet.proofs.Sizes.{admitted-size}
+use Rattle.lists.specs.Lists.{laid, gathered-of}
+use Rattle.lists.specs.Faces.{list-analysed, list-written, list-read, list-read-by, reading-answer}
+use Rattle.lists.specs.Codes.{refusal-code, written-code, read-code, outcome-code}
+use Rattle.lists.proofs.Faces.{written-gathered, outcome-gathered}
+use Rattle.lists.proofs.Laws.{laid-length, laid-most}
+
+-- ---- the tasks that refusals name
+
+-- each check of a row names a task below k
+abbrev Names : ℕ → List Check → Type 0
+Names k [] = Unit {0}
+Names k (c ∷ cs) = (task-of-refusal (c .refusal) < k) × Names k cs
+
+names-append : (k : ℕ) (cs ds : List Check) → Names k cs → Names k ds → Names k (cs ++ ds)
+names-append k [] ds n m = m
+names-append k (c ∷ cs) ds n m = (n .0, names-append k cs ds (n .1) m)
+
+outcome-names : (k : ℕ) (cs : List Check) → Names k cs → (r : Refusal) → outcome cs ≡ Refused r → task-of-refusal r < k
+unfolding outcome
+outcome-names k [] n r e = let z : _≡_ {A = ℕ} 0 1 = cc in let z : ⊥ = omega arith in absurd z
+outcome-names k (c ∷ cs) n r e = go (c .applies) e (outcome-names k cs (n .1) r)
+  where
+    go : (b : Bool) → elim b as (λ (x : Bool). Answer) [ true ↦ Refused (c .refusal) | false ↦ outcome cs ] ≡ Refused r → (outcome cs ≡ Refused r → task-of-refusal r < k) → task-of-refusal r < k
+    go true q rec = let z : c .refusal ≡ r = cc in subst (λ (x : Refusal). task-of-refusal x < k) z (n .0)
+    go false q rec = rec q
+
+frame-names : (k i : ℕ) (rs : List Record) → i + length rs ≤ k → Names k (frame-count-checks i rs)
+unfolding frame-count-checks frame-count-check
+frame-names k i [] h = tt
+frame-names k i (r ∷ rs) h = (omega arith, frame-names k (suc i) rs (omega arith))
+
+task-names : (k i : ℕ) (ts : List Task) → i + length ts ≤ k → Names k (task-checks i ts)
+unfolding task-checks
+task-names k i [] h = tt
+task-names k i (t ∷ ts) h = (omega arith, (omega arith, (omega arith, task-names k (suc i) ts (omega arith))))
+
+layout-names : (k i n : ℕ) (bits : List Bool) → 0 < k → i + n ≤ k → Names k (layout-checks i n bits)
+unfolding layout-checks frame-count-check
+layout-names k i zero bits p h = (p, (p, tt))
+layout-names k i (suc n) bits p h = (p, (omega arith, (p, layout-names k (suc i) n (drop (record-width bits) bits) p (omega arith))))
+
+number-small : (r : Refusal) → number-of r < 32
+number-small Length = lit< tt
+number-small CheckWord = lit< tt
+number-small Version = lit< tt
+number-small Policy = lit< tt
+number-small BitSet = lit< tt
+number-small TaskCount = lit< tt
+number-small (FrameCount i) = lit< tt
+number-small Records = lit< tt
+number-small (IllFormed i) = lit< tt
+number-small (Lock i) = lit< tt
+number-small (NotMonotonic i) = lit< tt
+number-small Room = lit< tt
+
+refusal-small : (r : Refusal) → task-of-refusal r < 32 → refusal-code r < 2 ^ 32
+refusal-small r h = let n = number-small r in omega arith
+
+-- ---- a list written
+
+gathered-length : (policy : ℕ) (list : List Record) → length (gathered-of policy list .tasks) ≡ most-tasks
+unfolding gathered-of
+gathered-length policy list =
+    let blanks : List Record = replicate most-tasks blank-record in
+    let e : length blanks ≡ most-tasks = length-replicate most-tasks blank-record in
+    ap length (sym (laid-most list blanks most-tasks))
+    ∙ laid-length list blanks (min (length list) most-tasks) (min-le-left (length list) most-tasks) (subst (λ (k : ℕ). min (length list) most-tasks ≤ k) (sym e) (min-le-right (length list) most-tasks))
+    ∙ e
+
+module _ (policy : ℕ) (list : List Record) (room : List ℕ) where
+  abbrev set : Sheet
+  set = gathered-of policy list
+
+  records-few : length (records-of set) ≤ 32
+  unfolding records-of
+  records-few = rw (length-take) (omega (arith, gathered-length policy list))
+
+  row-names : (c : Check) → task-of-refusal (c .refusal) < 32 → Names 32 (list-checks policy (set .«task_count») (records-of set) ++ c ∷ [])
+  unfolding list-checks policy-check task-count-check
+  row-names c h =
+      let rs : List Record = records-of set in
+      let counts : List Check = frame-count-checks 0 rs in
+      let judged : List Check = task-checks 0 (map task-in rs) in (
+        lit< tt,
+        (
+          lit< tt,
+          names-append 32 (counts ++ judged) (c ∷ [])
+              (names-append 32 counts judged (frame-names 32 0 rs (omega (arith, records-few))) (task-names 32 0 (map task-in rs) (omega (arith, records-few, length-map rs task-in)))) (h, tt),
+        ),
+      )
+
+  abbrev space : Check
+  space = ltb (length room) (length (sheet-bytes set)) ⇒ Room
+
+  pub written-small : written-code (list-written policy list room) < 2 ^ 32
+  unfolding written written-by writing admission gathered-of
+  written-small = subst (λ (w : Written). written-code w < 2 ^ 32) (written-gathered policy list room) (go (writing set (length room)) refl)
+    where
+      checks : List Check
+      checks = list-checks policy (set .«task_count») (records-of set)
+
+      go : (a : Answer) → writing set (length room) ≡ a → written-code (written-by a set) < 2 ^ 32
+      go Admitted e = let size = admitted-size set (gathered-length policy list) (both-passed checks (space ∷ []) e .0) in omega arith
+      go (Refused r) e = refusal-small r (outcome-names 32 (checks ++ space ∷ []) (row-names space (lit< tt)) r e)
+
+-- ---- a list analysed
+
+-- a number of the order is that of a task
+number-few : (policy : ℕ) (tasks : List Task) (p : ℕ) → number-at (priority-order policy tasks) p ≤ length tasks
+unfolding number-at
+number-few policy tasks p = go (decLt p (length tasks))
+  where
+    go : Dec (p < length tasks) → getD (priority-order policy tasks) p 0 ≤ length tasks
+    go (yes h) = le-of-lt (number-in (length tasks) (priority-order policy tasks) (order-permutes policy tasks) p h)
+    go (no h) =
+        let long : length (priority-order policy tasks) ≤ p = omega (arith, order-permutes policy tasks .same-length) in
+        subst (λ (k : ℕ). k ≤ length tasks) (sym (List·getD-eq-default (priority-order policy tasks) 0 long)) zero-le
+
+missed-small : (order : List ℕ) (v : Verdict) → ((p : ℕ) → number-at order p ≤ 32) → outcome-code (verdict-number order v) < 2 ^ 32
+unfolding verdict-number blocker-number
+missed-small order holds few = lit< tt
+missed-small order (missed p none) few = let n = few p in omega arith
+missed-small order (missed p (some b)) few = let n = few p in let m = few b in omega arith
+
+module _ (policy : ℕ) (list : List Record) (room : List ℕ) where
+  pub outcome-small : outcome-code (list-analysed policy list room) < 2 ^ 32
+  unfolding set-outcome outcome-by set-answer room-check gathered-of outcome-of
+  outcome-small = subst (λ (o : Outcome). outcome-code o < 2 ^ 32) (outcome-gathered policy list room) (go (set-answer (set policy list room) (length room)) refl)
+    where
+      records : List Record
+      records = records-of (set policy list room)
+
+      enough : Check
+      enough = room-check (length room) (set policy list room .«task_count»)
+
+      go : (a : Answer) → set-answer (set policy list room) (length room) ≡ a → outcome-code (outcome-by a policy (map task-in records)) < 2 ^ 32
+      go Admitted e = missed-small (priority-order policy (map task-in records)) (verdict (ordered-set policy (map task-in records))) (λ p. omega (arith, number-few policy (map task-in records) p, records-few policy list room, length-map records task-in))
+      go (Refused r) e = refusal-small r (outcome-names 32 (list-checks policy (set policy list room .«task_count») records ++ enough ∷ []) (row-names policy list room enough (lit< tt)) r e)
+
+-- ---- a sheet read
+
+module _ (s : List ℕ) (list : List Record) where
+  abbrev bits : List Bool
+  bits = bits-of (body s)
+
+  abbrev n : ℕ
+  n = header-in bits .task-count
+
+  count-small : n < 32
+  unfolding header-in unpacked
+  count-small = value-taken task-count-width (drop policy-width (drop version-width bits))
+
+  sheet-names : (c : Check) → task-of-refusal (c .refusal) < 32 → Names 32 (sheet-checks s ++ c ∷ [])
+  unfolding sheet-checks policy-check task-count-check
+  sheet-names c h =
+      let laid : List Check = layout-checks 0 n (records-in bits) in
+      let judged : List Check = task-checks 0 (tasks-in n (records-in bits)) in (
+        lit< tt,
+        (
+          lit< tt,
+          (
+            lit< tt,
+            (
+              lit< tt,
+              (
+                lit< tt,
+                (
+                  lit< tt,
+                  names-append 32 (laid ++ judged) (c ∷ [])
+                      (names-append 32 laid judged (layout-names 32 0 n (records-in bits) (lit< tt) (omega (arith, count-small)))
+                      (task-names 32 0 (tasks-in n (records-in bits)) (omega (arith, count-small, length-tasks-in n (records-in bits))))) (h, tt),
+                ),
+              ),
+            ),
+          ),
+        ),
+      )
+
+  abbrev short : Check
+  short = ltb (length list) (length (tasks-of s)) ⇒ Room
+
+  pub read-small : read-code (list-read s list) < 2 ^ 32
+  unfolding list-read list-read-by reading-answer
+  read-small = go (reading-answer s (length list)) refl
+    where
+      go : (a : Answer) → reading-answer s (length list) ≡ a → read-code (list-read-by a s) < 2 ^ 32
+      go Admitted e = let c = by-reading s (answer-read s ∙ both-passed (sheet-checks s) (short ∷ []) e .0) in omega (arith, c .policy-known, c .few-tasks)
+      go (Refused r) e = refusal-small r (outcome-names 32 (sheet-checks s ++ short ∷ []) (sheet-names short (lit< tt)) r e)

@@ -1,0 +1,33 @@
+-- One number for each answer, for the C program: below 32 the number of the refusal, 0 for none, and 32 times what else the call answers.
+use Prim.Native.Nat.{ℕ, _+_, _*_}
+use Rattle.sheet.specs.Refusals.{number-of, task-of-refusal}
+use Rattle.sheet.specs.declared.Refusal.{Refusal}
+use Rattle.sheet.specs.declared.Written.{Written}
+use Rattle.sheet.specs.declared.Written.the-variants.{Bytes, TurnedAway}
+use Rattle.analysis.specs.Answers.{blocker-code}
+use Rattle.analysis.specs.declared.Outcome.{Outcome}
+use Rattle.analysis.specs.declared.Outcome.the-variants.{Holds, Missed}
+use Rattle.analysis.specs.declared.Outcome.the-variants.{Refused as refused}
+use Rattle.lists.specs.declared.ListRead.{ListRead}
+use Rattle.lists.specs.declared.ListRead.the-variants.{Set}
+use Rattle.lists.specs.declared.ListRead.the-variants.{TurnedAway as turned-away}
+
+-- "A refusal returns its number and the task number for 7, 9, 10 and 11 (else 0)"
+abbrev pub refusal-code : Refusal → ℕ
+refusal-code r = number-of r + 32 * task-of-refusal r
+
+-- "The writer returns the bytes written,"
+abbrev pub written-code : Written → ℕ
+written-code (Bytes n) = 32 * n
+written-code (TurnedAway r) = refusal-code r
+
+-- "the reader the policy and task count."
+abbrev pub read-code : ListRead → ℕ
+read-code (Set policy count) = 32 * (policy + 4 * count)
+read-code (turned-away r) = refusal-code r
+
+-- a miss by 01's number for it
+abbrev pub outcome-code : Outcome → ℕ
+outcome-code Holds = 0
+outcome-code (Missed p b) = 32 * (100 + 17 * p + blocker-code b)
+outcome-code (refused r) = refusal-code r

@@ -1,0 +1,233 @@
+// The workbench's lists of task records: a lent list gathered into a set by value, and a set scattered into a lent list.
+ghost use mathlib.Core.Path.{_≡_};
+ghost use Prim.Native.Nat.{_<_, _^_, min};
+ghost use lib.ListN.{getD};
+ghost use Rattle.analysis.specs.Answers.{blocker-code};
+ghost use Rattle.lists.specs.Lists.{gathered-of, scattered-of};
+ghost use Rattle.lists.specs.Codes.{refusal-code, written-code, read-code, outcome-code};
+ghost use Rattle.lists.specs.Faces.{list-read, list-filled, list-written, list-left, list-analysed, list-times};
+ghost use Rattle.lists.specs.Parts.{opened-of, with-record, no-record, to-fill, answer-to};
+use analysis::Outcome;
+use order::Blocker;
+use sheet::Answer;
+use sheet::Reading;
+use sheet::Refusal;
+use sheet::Sheet;
+use sheet::Task;
+use sheet::Written;
+
+// The count of a list of n records: 17 for all that are too long.
+fn counted(n: usize) -> u32
+    ensures { λ r. ⌜ r ≡ min n 17 ⌝ }
+{
+    let over = Sheet::MOST_TASKS + 1;
+    if n < over as usize {
+        return n as u32;
+    }
+    over
+}
+
+// A set for a list of n records, with none of them in it yet.
+fn opened(policy: u32, n: usize) -> Sheet
+    ensures { λ r. ⌜ r ≡ opened-of policy n ⌝ }
+{
+    Sheet {
+        policy: policy,
+        task_count: counted(n),
+        tasks: [Task::blank(); 16],
+    }
+}
+
+// How many of n records go into a set.
+fn to_copy(n: usize) -> usize
+    ensures { λ r. ⌜ r ≡ min n 16 ⌝ }
+{
+    let most = Sheet::MOST_TASKS as usize;
+    if n < most {
+        return n;
+    }
+    most
+}
+
+fn with_record(sheet: Sheet, i: usize, task: Task) -> Sheet
+    requires { ⌜ i < 16 ⌝ }
+    ensures { λ r. ⌜ r ≡ with-record sheet i task ⌝ }
+{
+    let mut set = sheet;
+    set.tasks[i] = task;
+    set
+}
+
+// A lent list as a set by value.
+pub fn gathered(policy: u32, list: &[Task]) -> Sheet
+    ensures { λ r. ⌜ r ≡ gathered-of policy (now (list .entry)) ⌝ }
+{
+    let n = list.len();
+    let count = to_copy(n);
+    let mut set = opened(policy, n);
+    let mut i: usize = 0;
+    while i < count {
+        set = with_record(set, i, list[i]);
+        i += 1;
+    }
+    set
+}
+
+// How many records of a list of n a set fills.
+fn to_fill(set: Sheet, n: usize) -> usize
+    ensures { λ r. ⌜ r ≡ to-fill set n ⌝ }
+{
+    let count = set.task_count;
+    if Sheet::MOST_TASKS < count {
+        return 0;
+    }
+    let records = count as usize;
+    if records <= n {
+        return records;
+    }
+    0
+}
+
+fn record_at(set: Sheet, i: usize) -> Task
+    requires { ⌜ i < 16 ⌝ }
+    ensures { λ r. ⌜ r ≡ getD (set .tasks) i no-record ⌝ }
+{
+    let task = set.tasks[i];
+    task
+}
+
+// The records of a set into a lent list, which keeps the rest of its content.
+pub fn scattered(set: Sheet, list: &mut [Task])
+    ensures { λ _. ⌜ now (list .exit) ≡ scattered-of set (now (list .entry)) ⌝ }
+{
+    let count = to_fill(set, list.len());
+    let mut i: usize = 0;
+    while i < count {
+        list[i] = record_at(set, i);
+        i += 1;
+    }
+}
+
+// What a reading into a list answers: the policy and the task count, or the refusal.
+pub enum ListRead {
+    Set(u32, u32),
+    TurnedAway(Refusal),
+}
+
+fn set_in(reading: Reading) -> Sheet
+    ensures { λ r. ⌜ r ≡ reading .sheet ⌝ }
+{
+    let set = reading.sheet;
+    set
+}
+
+// The answer for a list of n records.
+fn answered(reading: Reading, n: usize) -> ListRead
+    ensures { λ r. ⌜ r ≡ answer-to reading n ⌝ }
+{
+    let answer = reading.answer;
+    let set = reading.sheet;
+    match answer {
+        Answer::Refused(why) => ListRead::TurnedAway(why),
+        Answer::Admitted => {
+            if n < set.task_count as usize {
+                return ListRead::TurnedAway(Refusal::Room);
+            }
+            ListRead::Set(set.policy, set.task_count)
+        },
+    }
+}
+
+// A sheet read into a lent list.
+pub fn read_list(sheet: &[u8], list: &mut [Task]) -> ListRead
+    ensures { λ r. ⌜ (r ≡ list-read (now (sheet .entry)) (now (list .entry))) × (now (list .exit) ≡ list-filled (now (sheet .entry)) (now (list .entry))) ⌝ }
+{
+    let reading = reader::read_sheet(sheet);
+    scattered(set_in(reading), list);
+    answered(reading, list.len())
+}
+
+// A lent list written to a sheet.
+pub fn write_list(policy: u32, list: &[Task], sheet: &mut [u8]) -> Written
+    ensures { λ r. ⌜ (r ≡ list-written policy (now (list .entry)) (now (sheet .entry))) × (now (sheet .exit) ≡ list-left policy (now (list .entry)) (now (sheet .entry))) ⌝ }
+{
+    writer::write_sheet(gathered(policy, list), sheet)
+}
+
+// A lent list analysed, its times to lent numbers.
+pub fn analyse_list(policy: u32, list: &[Task], times: &mut [u32]) -> Outcome
+    ensures { λ r. ⌜ (r ≡ list-analysed policy (now (list .entry)) (now (times .entry))) × (now (times .exit) ≡ list-times policy (now (list .entry)) (now (times .entry))) ⌝ }
+{
+    analysis::analyse_set(gathered(policy, list), times)
+}
+
+fn refusal_code(why: Refusal) -> u32
+    requires { ⌜ refusal-code why < 2 ^ 32 ⌝ }
+    ensures { λ r. ⌜ r ≡ refusal-code why ⌝ }
+{
+    why.number() + 32 * why.task()
+}
+
+fn written_code(written: Written) -> u32
+    requires { ⌜ written-code written < 2 ^ 32 ⌝ }
+    ensures { λ r. ⌜ r ≡ written-code written ⌝ }
+{
+    match written {
+        Written::Bytes(n) => 32 * (n as u32),
+        Written::TurnedAway(why) => refusal_code(why),
+    }
+}
+
+fn read_code(read: ListRead) -> u32
+    requires { ⌜ read-code read < 2 ^ 32 ⌝ }
+    ensures { λ r. ⌜ r ≡ read-code read ⌝ }
+{
+    match read {
+        ListRead::Set(policy, count) => 32 * (policy + 4 * count),
+        ListRead::TurnedAway(why) => refusal_code(why),
+    }
+}
+
+// For C: a sheet read into the workbench's own records.
+#[no_mangle]
+pub extern "C" fn burrbeech_read_list(sheet: &[u8], list: &mut [Task]) -> u32
+    ensures { λ r. ⌜ (r ≡ read-code (list-read (now (sheet .entry)) (now (list .entry)))) × (now (list .exit) ≡ list-filled (now (sheet .entry)) (now (list .entry))) ⌝ }
+{
+    read_code(read_list(sheet, list))
+}
+
+// For C: the workbench's own records written to a sheet.
+#[no_mangle]
+pub extern "C" fn burrbeech_write_list(policy: u32, list: &[Task], sheet: &mut [u8]) -> u32
+    ensures { λ r. ⌜ (r ≡ written-code (list-written policy (now (list .entry)) (now (sheet .entry)))) × (now (sheet .exit) ≡ list-left policy (now (list .entry)) (now (sheet .entry))) ⌝ }
+{
+    written_code(write_list(policy, list, sheet))
+}
+
+fn blocker_code(blocker: Blocker) -> u32
+    ensures { λ r. ⌜ r ≡ blocker-code blocker ⌝ }
+{
+    match blocker {
+        Blocker::At(b) => b,
+        Blocker::Nobody => 16,
+    }
+}
+
+fn outcome_code(outcome: Outcome) -> u32
+    requires { ⌜ outcome-code outcome < 2 ^ 32 ⌝ }
+    ensures { λ r. ⌜ r ≡ outcome-code outcome ⌝ }
+{
+    match outcome {
+        Outcome::Holds => 0,
+        Outcome::Missed(p, blocker) => 32 * (100 + 17 * p + blocker_code(blocker)),
+        Outcome::Refused(why) => refusal_code(why),
+    }
+}
+
+// For C: the workbench's own records analysed.
+#[no_mangle]
+pub extern "C" fn burrbeech_analyse_list(policy: u32, list: &[Task], times: &mut [u32]) -> u32
+    ensures { λ r. ⌜ (r ≡ outcome-code (list-analysed policy (now (list .entry)) (now (times .entry)))) × (now (times .exit) ≡ list-times policy (now (list .entry)) (now (times .entry))) ⌝ }
+{
+    outcome_code(analyse_list(policy, list, times))
+}

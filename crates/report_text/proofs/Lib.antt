@@ -1,0 +1,7 @@
+pub mod Put
+pub mod Decimal
+pub mod Line
+pub mod Lines
+pub mod Rows
+pub mod Whole
+pub mod Reported

@@ -1,0 +1,84 @@
+-- Laws of text written into a buffer: one byte, a word byte by byte, text behind text.
+use mathlib.Core.List.{List, [], _∷_, _++_, append-assoc}
+use mathlib.Core.Path.{_≡_, refl, sym, ap, ap₂, _∙_}
+use Prim.Native.Nat.{ℕ, zero, suc, _+_, _≤_, _<_}
+use native.Mathlib.Nat.{zero-add, add-assoc, add-zero}
+use native.Mathlib.Numerals.{add-one}
+use native.Mathlib.Omega.{arith}
+use lib.ListN.{length, getD, take, drop, set, length-append, length-take, length-drop}
+use lib.Seq.{set-split, append-snoc, take-at, drop-at, drop-drop, take-all, length-take-le, paste, paste-zero, paste-suc, length-paste}
+use Rattle.report_text.specs.Put.{Put}
+
+pub put-one : (b : List ℕ) (at x : ℕ) → at < length b → Put b at (x ∷ []) (set b at x) (at + 1)
+put-one b at x h =
+    record {
+      holds = set-split b at x h ∙ sym (append-snoc (take at b) x (drop (suc at) b)) ∙ ap (λ (n : ℕ). take at b ++ (x ∷ []) ++ drop n b) (sym (add-one at));
+      ends = refl;
+    }
+
+-- what a text leaves is as long as the buffer was
+pub put-length : {b : List ℕ} {at : ℕ} {s after : List ℕ} {next : ℕ} → Put b at s after next → at + length s ≤ length b → length after ≡ length b
+put-length {b} {at} {s} p h = ap length (p .holds) ∙ simp (length-append, length-take, length-drop) (omega arith)
+
+-- behind a text of at most k bytes there is the rest of the room
+pub put-room : {b : List ℕ} {at : ℕ} {s after : List ℕ} {next : ℕ} → Put b at s after next
+    → (k n : ℕ) → length s ≤ k → at + (k + n) ≤ length b → next + n ≤ length after
+put-room p k n l h = omega (arith, p .ends, put-length p (omega arith))
+
+-- no text yet
+pub put-none : (b : List ℕ) (at : ℕ) → Put b at [] b at
+put-none b at = record { holds = paste-zero b at []; ends = sym (add-zero at) }
+
+-- text behind text is one text
+module _ {b : List ℕ} {at : ℕ} {s c : List ℕ} {m : ℕ} {t d : List ℕ} {n : ℕ} where
+  pub put-then : at ≤ length b → Put b at s c m → Put c m t d n → Put b at (s ++ t) d n
+  put-then h p q =
+      record {
+        holds =
+            q .holds
+            ∙ ap₂ (λ (x y : List ℕ). x ++ t ++ y) front back
+            ∙ ap (λ (l : List ℕ). l ++ drop (at + length (s ++ t)) b) (append-assoc (take at b) s t);
+        ends = q .ends ∙ ap (λ (k : ℕ). k + length t) (p .ends) ∙ far;
+      }
+    where
+      reached : length (take at b ++ s) ≡ m
+      reached = rw (length-append (take at b) s, length-take-le at b h) (sym (p .ends))
+
+      far : at + length s + length t ≡ at + length (s ++ t)
+      far = rw (length-append s t) (omega arith)
+
+      front : take m c ≡ take at b ++ s
+      front = ap (take m) (p .holds) ∙ take-at (take at b ++ s) _ m reached
+
+      back : drop (m + length t) c ≡ drop (at + length (s ++ t)) b
+      back =
+          sym (drop-drop (length t) m c)
+          ∙ ap (drop (length t)) (ap (drop m) (p .holds) ∙ drop-at (take at b ++ s) _ m reached)
+          ∙ drop-drop (length t) (at + length s) b
+          ∙ ap (λ (k : ℕ). drop k b) far
+
+-- ---- a word byte by byte
+
+pub copied : List ℕ → ℕ → List ℕ → ℕ → List ℕ
+copied b at s i = paste b at s i
+
+pub none-copied : (b : List ℕ) (at : ℕ) (s : List ℕ) → b ≡ copied b at s 0
+unfolding copied
+none-copied b at s = paste-zero b at s
+
+module _ (b : List ℕ) (at : ℕ) (s : List ℕ) (i : ℕ) (room : at + length s ≤ length b) where
+  pub length-copied : i ≤ length s → length (copied b at s i) ≡ length b
+  unfolding copied
+  length-copied h = length-paste b at s i (omega arith) h
+
+  pub more-copied : i < length s → set (copied b at s i) (at + i) (getD s i 0) ≡ copied b at s (i + 1)
+  unfolding copied
+  more-copied h = rw (add-one i) (paste-suc b at s i 0 (omega arith) h)
+
+  pub all-copied : i ≤ length s → length s ≤ i → Put b at s (copied b at s i) (at + length s)
+  unfolding copied
+  all-copied l h =
+      record {
+        holds = ap₂ (λ (x : List ℕ) (n : ℕ). take at b ++ x ++ drop (at + n) b) (take-all i s h) (omega arith);
+        ends = refl;
+      }

@@ -1,0 +1,22 @@
+-- `put_byte` meets its contract.
+use borrow.Author.Needs.{needs}
+use Rattle.report_text.proofs.Put.{put-one}
+use Rattle.report_text.proofs.put_byte.Statement.{statement}
+use Rattle.report_text.proofs.put_byte.Tie as tie
+use Rattle.report_text.proofs.put_byte.Reads as reads
+use Rattle.report_text.proofs.put_byte.Lts as lts
+
+slice-write-buffer : tie.Need-slice-write-buffer
+slice-write-buffer c = search needs
+
+add-result : tie.Need-add-result
+add-result c = search needs
+
+same-length : tie.Need-same-length
+same-length c = search needs
+
+returns : tie.Need-returns
+returns c = put-one _ _ _ (c .pre)
+
+pub put-byte-spec : {M : Type 1} → statement M
+put-byte-spec = tie.close (tie.spec slice-write-buffer add-result same-length returns)
