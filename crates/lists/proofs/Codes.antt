@@ -3,22 +3,21 @@ use mathlib.Core.Bool.{Bool, true, false}
 use mathlib.Core.List.{List, [], _∷_, _++_, map}
 use mathlib.Core.Option.{none, some}
 use mathlib.Core.Path.{_≡_, refl, sym, subst, ap, _∙_}
-use Prim.Native.Nat.{ℕ, zero, suc, _+_, _*_, _≤_, _<_, _^_, min, zero-le}
+use Prim.Native.Nat.{ℕ, zero, suc, _+_, _≤_, _<_, _^_, min, zero-le}
 use native.Mathlib.Decide.{decLt}
 use native.Mathlib.Nat.{le-of-lt, min-le-left, min-le-right}
 use native.Mathlib.Omega.{arith}
 use lib.Dec.{ltb, lit<}
-use lib.ListN.{length, getD, take, drop, replicate, length-map, length-take, length-replicate, List·getD-eq-default}
-use lib.Seq.{length-take-le}
+use lib.ListN.{length, getD, drop, replicate, length-map, length-take, length-replicate, List·getD-eq-default}
 use Rattle.bits.specs.Packed.{bits-of}
 use Rattle.check_word.specs.Division.{body}
 use Rattle.sheet.specs.Constants.{most-tasks, version-width, policy-width, task-count-width}
 use Rattle.sheet.specs.Tasks.{task-in, records-of, blank-record}
 use Rattle.sheet.specs.Refusals.{number-of, task-of-refusal}
 use Rattle.sheet.specs.Fields.{unpacked}
-use Rattle.sheet.specs.Layout.{header-in, tasks-in, records-in, record-width, frame-count-in}
+use Rattle.sheet.specs.Layout.{header-in, tasks-in, records-in, record-width}
 use Rattle.sheet.specs.Admission.{Check, _⇒_, outcome, admission, list-checks, policy-check, task-count-check, frame-count-check, frame-count-checks, task-checks}
-use Rattle.sheet.specs.Reading.{sheet-checks, layout-checks, policy-of, tasks-of}
+use Rattle.sheet.specs.Reading.{sheet-checks, layout-checks, tasks-of}
 use Rattle.sheet.specs.Writing.{sheet-bytes, writing, written, written-by}
 use Rattle.sheet.specs.declared.Answer.{Answer}
 use Rattle.sheet.specs.declared.Answer.the-variants.{Admitted, Refused}

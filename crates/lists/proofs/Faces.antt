@@ -2,7 +2,7 @@
 use mathlib.Core.Bool.{Bool, true, false, _||_}
 use mathlib.Core.List.{List, [], _∷_, _++_, map}
 use mathlib.Core.Path.{_≡_, refl, sym, ap, ap₂, _∙_}
-use Prim.Native.Nat.{ℕ, suc, _≤_, _<_, min, zero-le}
+use Prim.Native.Nat.{ℕ, suc, _≤_, _<_, zero-le}
 use native.Mathlib.Decide.{decLe}
 use native.Mathlib.Nat.{min-eq-left, le-min, le-refl}
 use native.Mathlib.Omega.{arith}
@@ -11,7 +11,7 @@ use lib.Dec.{ltb, eqb}
 use lib.ListN.{length, take, drop, replicate}
 use lib.Seq.{take-all, take-at}
 use Rattle.sheet.specs.Constants.{most-tasks}
-use Rattle.sheet.specs.Tasks.{task-in, record-of, records-of, blank-record, sheet-with, blank-sheet}
+use Rattle.sheet.specs.Tasks.{task-in, records-of, blank-record, sheet-with, blank-sheet}
 use Rattle.sheet.specs.Admission.{Check, _⇒_, outcome, list-checks, policy-check, task-count-check, frame-count-checks, task-checks}
 use Rattle.sheet.specs.Reading.{sheet-checks, policy-of, tasks-of, reading, reading-by}
 use Rattle.sheet.specs.Writing.{sheet-of, sheet-bytes, writing, written, written-by, left, left-by}
@@ -21,7 +21,6 @@ use Rattle.sheet.specs.declared.Refusal.{Refusal}
 use Rattle.sheet.specs.declared.Refusal.the-variants.{TaskCount, Room}
 use Rattle.sheet.specs.declared.Sheet.{Sheet}
 use Rattle.sheet.specs.declared.Task.{Task}
-use Rattle.sheet.specs.declared.Written.{Written}
 use Rattle.sheet.proofs.Carried.{by-reading}
 use Rattle.sheet.proofs.Carried.{reading-answer as answer-read}
 use Rattle.sheet.proofs.Checks.{applies, passed-over, and-then, outcome-append}

@@ -4,3 +4,5 @@ pub mod Walk
 pub mod Records
 pub mod Faces
 pub mod Codes
+pub mod Handed
+pub mod Numbered

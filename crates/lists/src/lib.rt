@@ -1,4 +1,5 @@
-// The workbench's lists of task records: a lent list gathered into a set by value, and a set scattered into a lent list.
+// The workbench's lists of task records: a lent list gathered into a set by value, a set scattered into a lent list,
+// and over these two the calls that read into, write and analyse a lent list, for Rattle and for C.
 ghost use mathlib.Core.Path.{_≡_};
 ghost use Prim.Native.Nat.{_<_, _^_, min};
 ghost use lib.ListN.{getD};
@@ -161,6 +162,7 @@ pub fn analyse_list(policy: u32, list: &[Task], times: &mut [u32]) -> Outcome
     analysis::analyse_set(gathered(policy, list), times)
 }
 
+// One number for each answer, for C.
 fn refusal_code(why: Refusal) -> u32
     requires { ⌜ refusal-code why < 2 ^ 32 ⌝ }
     ensures { λ r. ⌜ r ≡ refusal-code why ⌝ }
@@ -188,22 +190,6 @@ fn read_code(read: ListRead) -> u32
     }
 }
 
-// For C: a sheet read into the workbench's own records.
-#[no_mangle]
-pub extern "C" fn burrbeech_read_list(sheet: &[u8], list: &mut [Task]) -> u32
-    ensures { λ r. ⌜ (r ≡ read-code (list-read (now (sheet .entry)) (now (list .entry)))) × (now (list .exit) ≡ list-filled (now (sheet .entry)) (now (list .entry))) ⌝ }
-{
-    read_code(read_list(sheet, list))
-}
-
-// For C: the workbench's own records written to a sheet.
-#[no_mangle]
-pub extern "C" fn burrbeech_write_list(policy: u32, list: &[Task], sheet: &mut [u8]) -> u32
-    ensures { λ r. ⌜ (r ≡ written-code (list-written policy (now (list .entry)) (now (sheet .entry)))) × (now (sheet .exit) ≡ list-left policy (now (list .entry)) (now (sheet .entry))) ⌝ }
-{
-    written_code(write_list(policy, list, sheet))
-}
-
 fn blocker_code(blocker: Blocker) -> u32
     ensures { λ r. ⌜ r ≡ blocker-code blocker ⌝ }
 {
@@ -222,6 +208,22 @@ fn outcome_code(outcome: Outcome) -> u32
         Outcome::Missed(p, blocker) => 32 * (100 + 17 * p + blocker_code(blocker)),
         Outcome::Refused(why) => refusal_code(why),
     }
+}
+
+// For C: a sheet read into the workbench's own records.
+#[no_mangle]
+pub extern "C" fn burrbeech_read_list(sheet: &[u8], list: &mut [Task]) -> u32
+    ensures { λ r. ⌜ (r ≡ read-code (list-read (now (sheet .entry)) (now (list .entry)))) × (now (list .exit) ≡ list-filled (now (sheet .entry)) (now (list .entry))) ⌝ }
+{
+    read_code(read_list(sheet, list))
+}
+
+// For C: the workbench's own records written to a sheet.
+#[no_mangle]
+pub extern "C" fn burrbeech_write_list(policy: u32, list: &[Task], sheet: &mut [u8]) -> u32
+    ensures { λ r. ⌜ (r ≡ written-code (list-written policy (now (list .entry)) (now (sheet .entry)))) × (now (sheet .exit) ≡ list-left policy (now (list .entry)) (now (sheet .entry))) ⌝ }
+{
+    written_code(write_list(policy, list, sheet))
 }
 
 // For C: the workbench's own records analysed.

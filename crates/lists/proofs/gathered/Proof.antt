@@ -2,7 +2,7 @@
 -- All that it knows of `to_copy`, `opened` and `with_record` is that each meets its contract.
 use mathlib.Core.Path.{_≡_, refl, sym, _∙_, subst}
 use Prim.Native.Nat.{ℕ, _+_, _-_, _*_, _≤_, _<_, _^_, min, zero-le}
-use native.Mathlib.Nat.{le-antisymm, lt-of-le-of-lt, min-le-left, min-le-right}
+use native.Mathlib.Nat.{le-antisymm, min-le-left, min-le-right}
 use native.Mathlib.Numerals.{add-one-le, add-one-dec}
 use native.Mathlib.Omega.{arith}
 use mathlib.Core.WellFounded.{WellFounded, InvImage·wf}
@@ -51,7 +51,7 @@ use Rattle.sheet.proofs.Sheet as S
 use Rattle.lists.specs.Lists.{gathered-of}
 use Rattle.lists.specs.Parts.{no-record, opened-of, with-record as with-record-of}
 use Rattle.lists.proofs.Laws.{part, part-none, part-more, part-all}
-use Rattle.lists.proofs.Records.{task-val, sheet-val, IsTask, IsSheet, task-tells, sheet-tells, task-makes, sheet-makes, task-typed, sheet-typed, task-copy}
+use Rattle.lists.proofs.Records.{task-val, sheet-val, IsSheet, task-tells, sheet-tells, task-makes, sheet-makes, task-typed, sheet-typed, task-copy}
 use Rattle.lists.proofs.Walk.{tests, calls-value}
 use Rattle.lists.proofs.to_copy as to-copy
 use Rattle.lists.proofs.to_copy.Symbol as to-copy-def

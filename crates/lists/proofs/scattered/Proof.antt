@@ -1,6 +1,6 @@
 -- `scattered` meets its contract: a walk of its MIR, by hand. Each turn calls `record_at` on values and stores the record through the lent list.
 -- All that it knows of `to_fill` and `record_at` is that each meets its contract.
-use mathlib.Core.Path.{_≡_, refl, sym, _∙_, ap, subst}
+use mathlib.Core.Path.{_≡_, refl, sym, ap, subst}
 use Prim.Native.Nat.{ℕ, _+_, _-_, _*_, _≤_, _<_, _^_, zero-le}
 use native.Mathlib.Nat.{le-antisymm}
 use native.Mathlib.Numerals.{add-one-le, add-one-dec}
@@ -23,7 +23,7 @@ use prog.Wp.{Heap, Out, Env, afterSeq, afterBlock, afterTurn, Calls, Loops, Wp, 
 use ghost.Atoms.{Atoms}
 use contract.Monad.{Fun, factI}
 use contract.Running.{givenOf, tables, tablesOf}
-use sound.WpLaws.{FmC, fmOf, WpFn-mono}
+use sound.WpLaws.{fmOf, WpFn-mono}
 use types.Kit.{Given, Item, ‵, _⊛_, ⋆, runs, anyQ, atRet, Sq, _$_, _∵_, !, qed, by, move, keep, drop, split, join, rewrite, fsplit, fjoin, feqI, suffices, frame, done}
 use types.Part.{whole, sub, look-in}
 use types.Run.{look, store, store-raw, init, forget, stop, hop, fld, from, load, lit, unit-lit, of-opd, bin, and-then, no-more, assigns, assigns-last, land, first, blocks, returns, enter, alloc1, alloc0, params1, pass1, pass0, free1, free0, exec, Below, again, loops}
@@ -51,7 +51,7 @@ use Rattle.sheet.proofs.Sheet as S
 use Rattle.lists.specs.Lists.{scattered-of}
 use Rattle.lists.specs.Parts.{no-record, to-fill as to-fill-of}
 use Rattle.lists.proofs.Laws.{laid-to, laid-none, laid-more, laid-length, fill-most, fill-room, laid-as-scattered}
-use Rattle.lists.proofs.Records.{task-val, sheet-val, IsTask, IsSheet, task-tells, sheet-tells, tasks-length, task-makes, sheet-makes, task-typed, sheet-typed}
+use Rattle.lists.proofs.Records.{task-val, sheet-val, IsSheet, task-tells, sheet-tells, tasks-length, task-makes, sheet-makes, task-typed, sheet-typed}
 use Rattle.lists.proofs.Walk.{tests, calls-value}
 use Rattle.lists.proofs.to_fill as to-fill
 use Rattle.lists.proofs.to_fill.Symbol as to-fill-def
