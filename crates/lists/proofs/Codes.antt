@@ -22,7 +22,8 @@ use Rattle.sheet.specs.Writing.{sheet-bytes, writing, written, written-by}
 use Rattle.sheet.specs.declared.Answer.{Answer}
 use Rattle.sheet.specs.declared.Answer.the-variants.{Admitted, Refused}
 use Rattle.sheet.specs.declared.Refusal.{Refusal}
-use Rattle.sheet.specs.declared.Refusal.the-variants.{Length, CheckWord, Version, Policy, BitSet, TaskCount, FrameCount, Records, IllFormed, Lock, NotMonotonic, Room}
+use Rattle.sheet.specs.declared.Refusal.the-variants.{Room}
+use Rattle.sheet.proofs.Small.{number-small}
 use Rattle.sheet.specs.declared.Sheet.{Sheet}
 use Rattle.sheet.specs.declared.Written.{Written}
 use Rattle.sheet.specs.declared.Task.{Task as Record}
@@ -80,20 +81,6 @@ layout-names : (k i n : ℕ) (bits : List Bool) → 0 < k → i + n ≤ k → Na
 unfolding layout-checks frame-count-check
 layout-names k i zero bits p h = (p, (p, tt))
 layout-names k i (suc n) bits p h = (p, (omega arith, (p, layout-names k (suc i) n (drop (record-width bits) bits) p (omega arith))))
-
-number-small : (r : Refusal) → number-of r < 32
-number-small Length = lit< tt
-number-small CheckWord = lit< tt
-number-small Version = lit< tt
-number-small Policy = lit< tt
-number-small BitSet = lit< tt
-number-small TaskCount = lit< tt
-number-small (FrameCount i) = lit< tt
-number-small Records = lit< tt
-number-small (IllFormed i) = lit< tt
-number-small (Lock i) = lit< tt
-number-small (NotMonotonic i) = lit< tt
-number-small Room = lit< tt
 
 refusal-small : (r : Refusal) → task-of-refusal r < 32 → refusal-code r < 2 ^ 32
 refusal-small r h = let n = number-small r in omega arith

@@ -14,3 +14,4 @@ pub mod Changes
 pub mod TurnedAway
 pub mod Determined
 pub mod Analysable
+pub mod Small

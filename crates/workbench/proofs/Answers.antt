@@ -19,7 +19,8 @@ use Rattle.sheet.specs.declared.Answer.{Answer}
 use Rattle.sheet.specs.declared.Answer.the-variants.{Admitted}
 use Rattle.sheet.specs.declared.Answer.the-variants.{Refused as refused}
 use Rattle.sheet.specs.declared.Refusal.{Refusal}
-use Rattle.sheet.specs.declared.Refusal.the-variants.{Length, CheckWord, Version, Policy, BitSet, TaskCount, FrameCount, Records, IllFormed, Lock, NotMonotonic, Room}
+use Rattle.sheet.specs.declared.Refusal.the-variants.{Room}
+use Rattle.sheet.proofs.Small.{number-small}
 use Rattle.sheet.proofs.Checks.{applies, passed-over, admitted-first, refused-first}
 use Rattle.sheet.proofs.Carried.{by-reading, reading-answer}
 use Rattle.order.specs.Order.{priority-order, ordered-set}
@@ -31,9 +32,9 @@ use Rattle.workbench.specs.Entry.{four-bytes, entry-answer, entry-number
 
 -- ---- the number is small
 
-number-small : (n : ℕ) (order : List ℕ) → Permutes n order → n ≤ 16 → (p : ℕ) → number-at order p < 16
+place-small : (n : ℕ) (order : List ℕ) → Permutes n order → n ≤ 16 → (p : ℕ) → number-at order p < 16
 unfolding number-at
-number-small n order h l p = go (decLt p n)
+place-small n order h l p = go (decLt p n)
   where
     go : Dec (p < n) → getD order p 0 < 16
     go (yes i) = omega (arith, h .each-place p i)
@@ -42,26 +43,12 @@ number-small n order h l p = go (decLt p n)
 blocker-small : (n : ℕ) (order : List ℕ) → Permutes n order → n ≤ 16 → (b : Option ℕ) → blocker-code (blocker-number order b) ≤ 16
 unfolding blocker-number
 blocker-small n order h l none = omega arith
-blocker-small n order h l (some p) = omega (arith, number-small n order h l p)
+blocker-small n order h l (some p) = omega (arith, place-small n order h l p)
 
 verdict-small : (n : ℕ) (order : List ℕ) → Permutes n order → n ≤ 16 → (v : Verdict) → code (verdict-number order v) < 1000
 unfolding verdict-number
 verdict-small n order h l holds = lit< tt
-verdict-small n order h l (missed p b) = omega (arith, number-small n order h l p, blocker-small n order h l b)
-
-refusal-small : (r : Refusal) → number-of r < 1000
-refusal-small Length = lit< tt
-refusal-small CheckWord = lit< tt
-refusal-small Version = lit< tt
-refusal-small Policy = lit< tt
-refusal-small BitSet = lit< tt
-refusal-small TaskCount = lit< tt
-refusal-small (FrameCount i) = lit< tt
-refusal-small Records = lit< tt
-refusal-small (IllFormed i) = lit< tt
-refusal-small (Lock i) = lit< tt
-refusal-small (NotMonotonic i) = lit< tt
-refusal-small Room = lit< tt
+verdict-small n order h l (missed p b) = omega (arith, place-small n order h l p, blocker-small n order h l b)
 
 -- ---- by the answer of the sheet's checks
 
@@ -103,7 +90,7 @@ module _ (s room : List ℕ) where
   small-by Admitted e =
       verdict-small n (priority-order (policy-of s) (tasks-of s)) (order-permutes (policy-of s) (tasks-of s)) (by-reading s (reading-answer s ∙ e) .few-tasks)
       (verdict (ordered-set (policy-of s) (tasks-of s)))
-  small-by (refused r) e = refusal-small r
+  small-by (refused r) e = omega (arith, number-small r)
 
   -- the room is there
   pub done : 32 * sheet-analysis s .«task_count» ≤ length room

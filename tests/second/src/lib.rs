@@ -1,5 +1,16 @@
 //! A second reading of 01, written apart from the proved code and sharing nothing with it, and the proved code's C faces to compare with.
+pub mod all_runs;
+pub mod analysis;
 pub mod bits;
+pub mod cases;
 pub mod check_word;
+pub mod generate;
+#[cfg(feature = "proved")]
 pub mod proved;
 pub mod random;
+pub mod refusal;
+pub mod report;
+pub mod runs;
+pub mod sheet;
+pub mod table;
+pub mod task;

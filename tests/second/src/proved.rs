@@ -1,4 +1,5 @@
 //! The proved code, called through its C faces. A slice goes as its pointer and its length.
+use crate::task::Record;
 
 extern "C" {
     fn burrbeech_take_field(bytes: *const u8, len: usize, at: usize, width: usize) -> u64;
@@ -6,6 +7,10 @@ extern "C" {
     fn burrbeech_check_word(bytes: *const u8, len: usize) -> u16;
     fn burrbeech_sealed(bytes: *const u8, len: usize) -> bool;
     fn burrbeech_seal(bytes: *mut u8, len: usize) -> bool;
+    fn burrbeech_check_sheet(sheet: *const u8, sheet_len: usize, times: *mut u8, times_len: usize) -> u32;
+    fn burrbeech_read_list(sheet: *const u8, sheet_len: usize, list: *mut Record, list_len: usize) -> u32;
+    fn burrbeech_write_list(policy: u32, list: *const Record, list_len: usize, sheet: *mut u8, sheet_len: usize) -> u32;
+    fn burrbeech_analyse_list(policy: u32, list: *const Record, list_len: usize, times: *mut u32, times_len: usize) -> u32;
 }
 
 pub fn take(bytes: &[u8], at: usize, width: usize) -> Option<u32> {
@@ -26,4 +31,20 @@ pub fn is_sealed(bytes: &[u8]) -> bool {
 
 pub fn seal(bytes: &mut [u8]) -> bool {
     unsafe { burrbeech_seal(bytes.as_mut_ptr(), bytes.len()) }
+}
+
+pub fn check_sheet(sheet: &[u8], times: &mut [u8]) -> u32 {
+    unsafe { burrbeech_check_sheet(sheet.as_ptr(), sheet.len(), times.as_mut_ptr(), times.len()) }
+}
+
+pub fn read_list(sheet: &[u8], list: &mut [Record]) -> u32 {
+    unsafe { burrbeech_read_list(sheet.as_ptr(), sheet.len(), list.as_mut_ptr(), list.len()) }
+}
+
+pub fn write_list(policy: u32, list: &[Record], sheet: &mut [u8]) -> u32 {
+    unsafe { burrbeech_write_list(policy, list.as_ptr(), list.len(), sheet.as_mut_ptr(), sheet.len()) }
+}
+
+pub fn analyse_list(policy: u32, list: &[Record], times: &mut [u32]) -> u32 {
+    unsafe { burrbeech_analyse_list(policy, list.as_ptr(), list.len(), times.as_mut_ptr(), times.len()) }
 }

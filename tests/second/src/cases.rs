@@ -1,0 +1,83 @@
+//! The sets worked by hand, cases A to M.
+use crate::sheet;
+use crate::task::{Set, Task};
+
+/// What 01 says of a case.
+#[derive(Clone, Debug, PartialEq, Eq)]
+pub enum Expected {
+    /// The times of each task, in task-number order.
+    Holds(Vec<Vec<u32>>),
+    /// As above, with no times for a task that does not pass.
+    Missed {
+        task: usize,
+        blocker: Option<usize>,
+        times: Vec<Vec<u32>>,
+    },
+    Refused {
+        number: u32,
+        task: usize,
+    },
+}
+
+#[derive(Clone, Debug)]
+pub struct Case {
+    /// The letter in small, with the policy where 01 tells two.
+    pub name: &'static str,
+    pub set: Set,
+    pub order: Vec<usize>,
+    pub expected: Expected,
+}
+
+fn task(period: u32, deadline: u32, lock: u32, frames: &[u32]) -> Task {
+    Task { period, deadline, lock, frames: frames.to_vec() }
+}
+
+/// D = T and Q = 0, as 01 has them unless given.
+fn plain(period: u32, frames: &[u32]) -> Task {
+    task(period, period, 0, frames)
+}
+
+fn holds(name: &'static str, policy: u32, tasks: &[Task], times: &[&[u32]]) -> Case {
+    let expected = Expected::Holds(times.iter().map(|t| t.to_vec()).collect());
+    Case { name, set: Set { policy, tasks: tasks.to_vec() }, order: (0..tasks.len()).collect(), expected }
+}
+
+fn missed(name: &'static str, policy: u32, tasks: &[Task], missed: (usize, Option<usize>), times: &[&[u32]]) -> Case {
+    let times = times.iter().map(|t| t.to_vec()).collect();
+    let expected = Expected::Missed { task: missed.0, blocker: missed.1, times };
+    Case { expected, ..holds(name, policy, tasks, &[]) }
+}
+
+fn refused(name: &'static str, policy: u32, tasks: &[Task], number: u32) -> Case {
+    Case { expected: Expected::Refused { number, task: 0 }, ..holds(name, policy, tasks, &[]) }
+}
+
+/// F, G and H differ in the lock of task 1.
+fn locked(lock: u32) -> [Task; 2] {
+    [task(10, 4, 0, &[2]), task(20, 20, lock, &[5])]
+}
+
+pub fn cases() -> Vec<Case> {
+    let l = [task(10, 5, 0, &[1]), task(8, 5, 0, &[1])];
+    vec![
+        holds("a", 1, &[plain(100, &[40]), plain(150, &[40]), plain(350, &[100])], &[&[40], &[80], &[300]]),
+        holds("b", 1, &[plain(3, &[2, 1]), plain(7, &[3])], &[&[2, 1], &[6]]),
+        holds("c", 1, &[plain(3, &[3, 1]), plain(5, &[1])], &[&[3, 1], &[5]]),
+        missed("d", 1, &[plain(3, &[3]), plain(5, &[1])], (1, None), &[&[3], &[]]),
+        holds("e", 1, &[plain(4, &[1]), plain(14, &[10])], &[&[1], &[14]]),
+        holds("f", 0, &locked(3), &[&[4], &[7]]),
+        missed("g", 0, &locked(4), (0, Some(1)), &[&[], &[7]]),
+        holds("h", 0, &locked(1), &[&[2], &[7]]),
+        refused("i", 0, &[plain(10, &[1, 2, 3])], 11),
+        holds("j", 0, &[plain(10, &[3, 2, 1, 5])], &[&[3, 2, 1, 5]]),
+        holds("k", 0, &[plain(4, &[3, 1, 3, 2]), plain(20, &[2])], &[&[3, 1, 3, 2], &[7]]),
+        Case { order: vec![1, 0], ..holds("l1", 1, &l, &[&[2], &[1]]) },
+        holds("l2", 2, &l, &[&[1], &[2]]),
+        holds("m", 0, &[plain(10, &[3])], &[&[3]]),
+    ]
+}
+
+/// File names and bytes of the cases' sheets; I is a sheet too, though one that is refused.
+pub fn sheets() -> Vec<(String, Vec<u8>)> {
+    cases().iter().map(|case| (format!("{}.sheet", case.name), sheet::write(&case.set))).collect()
+}

@@ -1,0 +1,114 @@
+//! A task and a set, the workbench's records, and what makes a list of them admitted.
+use crate::refusal::Refusal;
+
+pub const MOST_TASKS: usize = 16;
+pub const MOST_FRAMES: usize = 8;
+pub const MOST_TICKS: u32 = 1_048_575;
+
+pub const LISTED: u32 = 0;
+pub const RATE_MONOTONIC: u32 = 1;
+pub const DEADLINE_MONOTONIC: u32 = 2;
+
+#[derive(Clone, Debug, PartialEq, Eq, Hash)]
+pub struct Task {
+    pub period: u32,
+    pub deadline: u32,
+    pub lock: u32,
+    pub frames: Vec<u32>,
+}
+
+#[derive(Clone, Debug, PartialEq, Eq, Hash)]
+pub struct Set {
+    pub policy: u32,
+    pub tasks: Vec<Task>,
+}
+
+/// A task as the workbench lends it; places past the count are not read.
+#[repr(C)]
+#[derive(Clone, Copy, Debug, PartialEq, Eq)]
+pub struct Record {
+    pub period: u32,
+    pub deadline: u32,
+    pub lock: u32,
+    pub frame_count: u32,
+    pub frames: [u32; MOST_FRAMES],
+}
+
+impl Task {
+    pub fn largest_frame(&self) -> u32 {
+        self.frames.iter().copied().max().unwrap_or(0)
+    }
+
+    fn in_range(&self) -> bool {
+        let ticks = 1..=MOST_TICKS;
+        let frames = self.frames.iter().all(|c| ticks.contains(c));
+        ticks.contains(&self.period) && ticks.contains(&self.deadline) && self.lock <= MOST_TICKS && frames
+    }
+
+    fn well_formed(&self) -> bool {
+        self.frames.iter().all(|&c| c <= self.deadline) && self.deadline <= self.period
+    }
+
+    /// 9, 10 and 11, in this order; `number` is the task's own.
+    pub fn admit(&self, number: usize) -> Result<(), Refusal> {
+        if !self.in_range() || !self.well_formed() {
+            return Err(Refusal::NotWellFormed(number));
+        }
+        if self.lock > self.largest_frame() {
+            return Err(Refusal::Lock(number));
+        }
+        start_frame(&self.frames).map(|_| ()).ok_or(Refusal::NotMonotonic(number))
+    }
+
+    /// The record with 0 in the places that are not in use.
+    pub fn record(&self) -> Record {
+        let mut frames = [0; MOST_FRAMES];
+        frames[..self.frames.len()].copy_from_slice(&self.frames);
+        Record { period: self.period, deadline: self.deadline, lock: self.lock, frame_count: self.frames.len() as u32, frames }
+    }
+}
+
+impl Set {
+    pub fn list(&self) -> Vec<Record> {
+        self.tasks.iter().map(Task::record).collect()
+    }
+}
+
+impl Record {
+    /// The task in the record, if its frame count can be one.
+    fn task(&self) -> Option<Task> {
+        let count = usize::try_from(self.frame_count).ok().filter(|n| (1..=MOST_FRAMES).contains(n))?;
+        Some(Task { period: self.period, deadline: self.deadline, lock: self.lock, frames: self.frames[..count].to_vec() })
+    }
+}
+
+/// The sum of `length` frames from frame `from` on, going round the list.
+pub fn sum_from(frames: &[u32], from: usize, length: usize) -> u64 {
+    (from..from + length).map(|i| u64::from(frames[i % frames.len()])).sum()
+}
+
+/// The lowest-numbered frame whose sums are, at each length, at least those from any other frame.
+pub fn start_frame(frames: &[u32]) -> Option<usize> {
+    let all = 0..frames.len();
+    let beats = |s: usize, other: usize| all.clone().all(|j| sum_from(frames, s, j + 1) >= sum_from(frames, other, j + 1));
+    all.clone().find(|&s| all.clone().all(|other| beats(s, other)))
+}
+
+/// 9, 10 and 11, task by task.
+pub fn admit_tasks(tasks: &[Task]) -> Result<(), Refusal> {
+    tasks.iter().enumerate().try_for_each(|(i, task)| task.admit(i))
+}
+
+/// The set in a lent list: 4, 6, then 7 task by task, then 9, 10 and 11 task by task.
+pub fn admit_list(policy: u32, list: &[Record]) -> Result<Set, Refusal> {
+    if ![LISTED, RATE_MONOTONIC, DEADLINE_MONOTONIC].contains(&policy) {
+        return Err(Refusal::Policy);
+    }
+    if !(1..=MOST_TASKS).contains(&list.len()) {
+        return Err(Refusal::TaskCount);
+    }
+    let tasks = list.iter().enumerate().map(|(i, r)| r.task().ok_or(Refusal::FrameCount(i)));
+    let tasks = tasks.collect::<Result<Vec<Task>, Refusal>>()?;
+    admit_tasks(&tasks)?;
+    Ok(Set { policy, tasks })
+}

@@ -1,0 +1,241 @@
+//! The second program on generated inputs: every refusal in every way, round trips, lent room, and the equation by its plain words.
+use second::analysis::{self, analyse, Verdict};
+use second::generate::{self, Draft};
+use second::random::Random;
+use second::refusal::Refusal;
+use second::task::{admit_list, start_frame, Record, Set, MOST_FRAMES, MOST_TASKS};
+use second::{bits, check_word, report, sheet};
+use std::collections::{BTreeMap, BTreeSet};
+
+fn sets(seed: u64, count: usize) -> impl Iterator<Item = Set> {
+    let mut random = Random::new(seed);
+    (0..count).map(move |i| if i % 8 == 0 { generate::edge_set(&mut random) } else { generate::admitted_set(&mut random) })
+}
+
+#[test]
+fn damaged_sheets_are_refused_as_meant() {
+    let mut random = Random::new(10);
+    let (mut by_number, mut ways) = (BTreeMap::new(), BTreeSet::new());
+    for set in sets(11, 120) {
+        for damaged in generate::damaged_sheets(&mut random, &set) {
+            assert_eq!(sheet::read(&damaged.bytes), Err(damaged.refusal), "{}: {:02x?}", damaged.way, damaged.bytes);
+            *by_number.entry(damaged.refusal.number()).or_insert(0u64) += 1;
+            ways.insert(damaged.way);
+        }
+    }
+    println!("damaged sheets by refusal: {by_number:?}, {} ways", ways.len());
+    assert!((1..=11).all(|n| by_number.contains_key(&n)));
+}
+
+#[test]
+fn damaged_lists_are_refused_as_meant() {
+    let mut random = Random::new(12);
+    let (mut by_number, mut ways) = (BTreeMap::new(), BTreeSet::new());
+    for set in sets(13, 120) {
+        for damaged in generate::damaged_lists(&mut random, &set) {
+            let list = generate::littered(&mut random, damaged.list);
+            assert_eq!(admit_list(damaged.policy, &list), Err(damaged.refusal), "{}: {list:?}", damaged.way);
+            *by_number.entry(damaged.refusal.number()).or_insert(0u64) += 1;
+            ways.insert(damaged.way);
+        }
+        let list = generate::littered(&mut random, set.list());
+        assert_eq!(admit_list(set.policy, &list), Ok(set));
+    }
+    println!("damaged lists by refusal: {by_number:?}, {} ways", ways.len());
+    assert!([4, 6, 7, 9, 10, 11].iter().all(|n| by_number.contains_key(n)));
+}
+
+/// 01's order where two things are wrong.
+#[test]
+fn order_of_a_sheet() {
+    let mut random = Random::new(14);
+    let shape = generate::Shape {
+        tasks: 3,
+        most_frames: 1,
+        least_frames: 1,
+        least_period: 10,
+        greatest_period: 100,
+        ..generate::shape(&mut random)
+    };
+    let draft = Draft::of(&generate::set_of(&mut random, shape));
+    let number = |change: &dyn Fn(&mut Draft)| {
+        let mut changed = draft.clone();
+        change(&mut changed);
+        sheet::read(&changed.bytes()).map_or_else(|r| (r.number(), r.task()), |_| (0, 0))
+    };
+    assert_eq!(number(&|_| {}), (0, 0));
+    assert_eq!(number(&|d| (d.version, d.policy) = (2, 3)), (3, 0));
+    assert_eq!(number(&|d| (d.policy, d.spare) = (3, 1)), (4, 0));
+    assert_eq!(number(&|d| (d.spare, d.count) = (1, 0)), (5, 0));
+    assert_eq!(number(&|d| (d.count, d.tasks[0].frame_count) = (17, 9)), (6, 0));
+    assert_eq!(number(&|d| (d.count, d.tasks[1].frame_count) = (4, 9)), (7, 1));
+    assert_eq!(number(&|d| (d.tasks[0].period, d.tasks[2].frame_count) = (0, 0)), (7, 2));
+    assert_eq!(number(&|d| (d.tasks[2].frame_count, d.surplus) = (15, vec![0; 9])), (7, 2));
+    assert_eq!(number(&|d| (d.fill, d.surplus) = (1, vec![0])), (8, 0));
+    assert_eq!(number(&|d| (d.fill, d.tasks[0].period) = (1, 0)), (5, 0));
+    assert_eq!(number(&|d| (d.tasks[1].period, d.tasks[0].lock) = (0, 1_048_575)), (10, 0));
+    assert_eq!(number(&|d| (d.tasks[1].period, d.tasks[1].lock) = (0, 1_048_575)), (9, 1));
+}
+
+#[test]
+fn round_trips() {
+    let (mut sizes, mut lengths) = (BTreeSet::new(), BTreeSet::new());
+    for set in sets(15, 2_000) {
+        let bytes = sheet::write(&set);
+        assert_eq!(bytes.len(), sheet::length(&set));
+        assert_eq!(Draft::of(&set).bytes(), bytes);
+        sizes.insert(set.tasks.len());
+        lengths.insert(bytes.len());
+        assert_eq!(sheet::read(&bytes), Ok(set));
+    }
+    assert_eq!((sheet::LEAST, sheet::GREATEST), (15, 452));
+    assert_eq!(sizes.len(), MOST_TASKS);
+    println!("round trips: sheets of {} to {} bytes", lengths.first().unwrap(), lengths.last().unwrap());
+}
+
+/// What changes a sheet but gets through must be a sheet with the same bytes when written again.
+#[test]
+fn muddled_and_random_sheets() {
+    let mut random = Random::new(16);
+    let mut answers = BTreeMap::new();
+    for set in sets(17, 20_000) {
+        for bytes in [generate::muddled_sheet(&mut random, &set), generate::random_sheet(&mut random)] {
+            let answer = sheet::read(&bytes);
+            if let Ok(set) = &answer {
+                assert_eq!(sheet::write(set), bytes);
+            }
+            *answers.entry(answer.map_or_else(Refusal::number, |_| 0)).or_insert(0u64) += 1;
+        }
+    }
+    println!("muddled and random sheets by refusal, 0 for none: {answers:?}");
+    assert!((0..=11).filter(|&n| n != 2).all(|n| answers.contains_key(&n)));
+}
+
+#[test]
+fn changed_bits_are_refused() {
+    for set in sets(18, 20) {
+        let bytes = sheet::write(&set);
+        for at in 0..8 * bytes.len() {
+            assert_eq!(sheet::read(&bits::inverted(&bytes, at)), Err(Refusal::CheckWord));
+        }
+    }
+    assert!(check_word::is_sealed(&sheet::write(&sets(18, 1).next().unwrap())));
+}
+
+/// Every room from none to one past the need, for each of the lent places.
+#[test]
+fn lent_room() {
+    let blank = Record { period: 1, deadline: 2, lock: 3, frame_count: 4, frames: [5; 8] };
+    for set in sets(19, 25) {
+        let (bytes, n) = (sheet::write(&set), set.tasks.len());
+        for room in generate::rooms(bytes.len()) {
+            let mut buffer = vec![0xA5; room];
+            let fits = room >= bytes.len();
+            assert_eq!(sheet::write_into(set.policy, &set.list(), &mut buffer), fits.then_some(bytes.len()).ok_or(Refusal::Room));
+            assert_eq!(buffer, filled(room, fits, &bytes, 0xA5));
+        }
+        for room in generate::rooms(n) {
+            let mut list = vec![blank; room];
+            assert_eq!(sheet::read_into(&bytes, &mut list), (room >= n).then_some((set.policy, n)).ok_or(Refusal::Room));
+            assert_eq!(list, filled(room, room >= n, &set.list(), blank));
+        }
+        let analysis = analyse(&set);
+        for room in generate::rooms(8 * n) {
+            let (mut times, fits) = (vec![77; room], room >= 8 * n);
+            assert_eq!(analysis::analyse_sheet(&bytes, &mut times), fits.then_some(analysis.verdict).ok_or(Refusal::Room));
+            assert_eq!(times, filled(room, fits, &analysis.places(), 77));
+        }
+        let places: Vec<u8> = analysis.places().iter().flat_map(|t| t.to_be_bytes()).collect();
+        for room in generate::rooms(32 * n) {
+            let (mut raw, fits) = (vec![0x5A; room], room >= 32 * n);
+            assert_eq!(analysis::check_sheet(&bytes, &mut raw), if fits { analysis.verdict.code() } else { 12 });
+            assert_eq!(raw, filled(room, fits, &places, 0x5A));
+        }
+    }
+}
+
+/// What a room of that size holds after a call that fits or is refused.
+fn filled<T: Clone>(room: usize, fits: bool, content: &[T], before: T) -> Vec<T> {
+    let written = if fits { content } else { &[] };
+    written.iter().cloned().chain(std::iter::repeat(before)).take(room).collect()
+}
+
+/// The equation as 01 says it: each t from 1 on, each job of each higher task.
+fn plain_response(set: &Set, order: &[usize], place: usize, frame: u32) -> Option<u32> {
+    let lower = order[place + 1..].iter().map(|&i| set.tasks[i].lock).max().unwrap_or(0);
+    let blocking = lower.max(1) - 1;
+    let work = |i: usize, t: u32| -> u32 {
+        let (task, start) = (&set.tasks[i], start_frame(&set.tasks[i].frames).unwrap());
+        let jobs = (t - 1) / task.period + 1;
+        (0..jobs as usize).map(|job| task.frames[(start + job) % task.frames.len()]).sum()
+    };
+    let demand = |t: u32| blocking + frame + order[..place].iter().map(|&i| work(i, t)).sum::<u32>();
+    (1..=set.tasks[order[place]].deadline).find(|&t| demand(t) <= t)
+}
+
+#[test]
+fn response_times_are_least_solutions() {
+    let mut random = Random::new(20);
+    let (mut times, mut missed) = (0u64, 0u64);
+    for _ in 0..1_500 {
+        let shape = generate::Shape { least_period: 4, greatest_period: 200, ..generate::shape(&mut random) };
+        let set = generate::set_of(&mut random, shape);
+        let analysis = analyse(&set);
+        for (place, &task) in analysis.order.iter().enumerate() {
+            let all = set.tasks[task].frames.iter().map(|&c| plain_response(&set, &analysis.order, place, c));
+            let all = all.collect::<Option<Vec<u32>>>();
+            match &all {
+                Some(_) => times += 1,
+                None => missed += 1,
+            }
+            assert_eq!(analysis.answers[task].times, all, "task {task} of {set:?}");
+        }
+    }
+    println!("tasks by the plain equation: {times} with times, {missed} without");
+    assert!(times > 1_000 && missed > 1_000);
+}
+
+#[test]
+fn admitted_sets_get_every_verdict() {
+    let (mut verdicts, mut loads) = (BTreeMap::new(), BTreeMap::new());
+    for set in sets(21, 20_000) {
+        let load = (generate::load(&set) * 5.0) as u32;
+        *loads.entry(load.min(7)).or_insert(0u64) += 1;
+        let kind = match analyse(&set).verdict {
+            Verdict::Holds => "holds",
+            Verdict::Missed { blocker: None, .. } => "missed, no blocker",
+            Verdict::Missed { .. } => "missed, blocker",
+        };
+        *verdicts.entry(kind).or_insert(0u64) += 1;
+    }
+    println!("verdicts of admitted sets: {verdicts:?}; by fifths of load, 7 for more: {loads:?}");
+    assert!(verdicts.len() == 3 && verdicts.values().all(|&n| n > 1_000));
+}
+
+#[test]
+fn costly_sets_end() {
+    for set in generate::costly_sets() {
+        assert_eq!(sheet::read(&sheet::write(&set)).as_ref(), Ok(&set));
+        let began = std::time::Instant::now();
+        let analysis = analyse(&set);
+        println!("costly set: {:?} after {} ms", analysis.verdict, began.elapsed().as_millis());
+        assert_eq!(analysis.places().len(), MOST_FRAMES * set.tasks.len());
+    }
+}
+
+/// A report's lines say what the analysis says.
+#[test]
+fn reports_have_a_line_for_each_task() {
+    for set in sets(22, 500) {
+        let text = report::report(&sheet::write(&set));
+        let lines: Vec<&str> = text.lines().collect();
+        assert!(text.ends_with('\n') && lines.len() == 1 + set.tasks.len());
+        let analysis = analyse(&set);
+        assert_eq!(lines[0].starts_with("holds "), analysis.verdict == Verdict::Holds);
+        for (line, &task) in lines[1..].iter().zip(&analysis.order) {
+            let words: Vec<&str> = line.split(' ').collect();
+            assert_eq!(words[0], task.to_string());
+            assert_eq!(words.len(), 4 + analysis.answers[task].times.as_ref().map_or(1, Vec::len));
+        }
+    }
+}
