@@ -1,12 +1,10 @@
 -- The lines of the report by their parts, and how long they are.
-use mathlib.Core.Bool.{true, false}
 use mathlib.Core.List.{List, [], _∷_, _++_, map, append-assoc}
-use mathlib.Core.Path.{_≡_, refl, sym, ap, _∙_}
-use Prim.Native.Nat.{ℕ, zero, suc, _+_, _-_, _*_, _≤_, _<_}
+use mathlib.Core.Path.{_≡_}
+use Prim.Native.Nat.{ℕ, _-_, _≤_, _<_}
 use native.Mathlib.Decide.{ℕ-discrete}
 use native.Mathlib.Omega.{arith}
 use borrow.Author.Tests.{le-leb, lt-leb}
-use lib.Dec.{leb}
 use lib.ListN.{length, getD, length-append}
 use Rattle.sheet.specs.Refusals.{number-of}
 use Rattle.analysis.specs.declared.Outcome.{Outcome}
@@ -15,7 +13,8 @@ use Rattle.order.specs.declared.Blocker.{Blocker}
 use Rattle.order.specs.declared.Blocker.the-variants.{At, Nobody}
 use Rattle.report_text.specs.Words.{decimal, line, missed-word}
 use Rattle.report_text.specs.Report.{blocker-word, first-line, time-words}
-use Rattle.report_text.specs.Put.{spaced, plain-line}
+use Rattle.report_text.specs.Put.{Put, spaced, plain-line}
+use Rattle.report_text.proofs.Put.{put-then}
 use Rattle.report_text.proofs.Decimal.{decimal-length, number-length, two-digits}
 use Rattle.report_text.proofs.Line.{line-spaced, numbers-length}
 
@@ -26,14 +25,22 @@ module _ (number period deadline blocked : ℕ) where
   abbrev pub head : List (List ℕ)
   head = decimal number ∷ decimal period ∷ decimal deadline ∷ decimal blocked ∷ []
 
-  pub line-missed : (times : List ℕ) → getD times 0 0 ≡ 0 → spaced head ++ missed-end ≡ plain-line number period deadline blocked times
+  line-missed : (times : List ℕ) → getD times 0 0 ≡ 0 → spaced head ++ missed-end ≡ plain-line number period deadline blocked times
   unfolding plain-line line time-words
   line-missed times e = rw (lt-leb 1 (getD times 0 0) (omega arith)) (line-spaced head missed-word [])
 
-  pub line-times : (times : List ℕ) → 1 ≤ length times → (getD times 0 0 ≡ 0 → ⊥) → spaced head ++ line (map decimal times) ≡ plain-line number period deadline blocked times
+  line-times : (times : List ℕ) → 1 ≤ length times → (getD times 0 0 ≡ 0 → ⊥) → spaced head ++ line (map decimal times) ≡ plain-line number period deadline blocked times
   unfolding plain-line time-words
   line-times [] h f = let z : ⊥ = omega arith in absurd z
   line-times (t ∷ times) h f = rw (le-leb 1 t (omega arith)) (line-spaced head (decimal t) (map decimal times))
+
+  -- the line's two parts one behind the other
+  module _ (times : List ℕ) {b : List ℕ} {at : ℕ} {c : List ℕ} {m : ℕ} {d : List ℕ} {n : ℕ} (room : at ≤ length b) (p : Put b at (spaced head) c m) where
+    pub put-missed : getD times 0 0 ≡ 0 → Put c m missed-end d n → Put b at (plain-line number period deadline blocked times) d n
+    put-missed e q = rw (← line-missed times e) (put-then room p q)
+
+    pub put-passing : 1 ≤ length times → (getD times 0 0 ≡ 0 → ⊥) → Put c m (line (map decimal times)) d n → Put b at (plain-line number period deadline blocked times) d n
+    put-passing h f q = rw (← line-times times h f) (put-then room p q)
 
   pub head-length : number < 100 → length (spaced head) ≤ 36
   unfolding spaced
@@ -70,7 +77,7 @@ blocker-length Nobody = omega arith
 
 missed-length : (n i : ℕ) (b : Blocker) → length (first-line (Missed i b) n) ≤ 40
 missed-length n i b =
-    rw (← missed-line n i b, length-append, length-append) (omega (arith, number-length n 0x20, number-length i 0x20, blocker-length b))
+    rw (← missed-line n i b, length-append (missed-space ++ (decimal n ++ (0x20 ∷ [])) ++ (decimal i ++ (0x20 ∷ []))) (blocker-word b ++ (0x0A ∷ [])), length-append (missed-space ++ (decimal n ++ (0x20 ∷ []))) (decimal i ++ (0x20 ∷ []))) (omega (arith, number-length n 0x20, number-length i 0x20, blocker-length b))
 
 pub first-line-length : (o : Outcome) (n : ℕ) → length (first-line o n) ≤ 40
 unfolding first-line line

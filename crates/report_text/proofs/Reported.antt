@@ -1,17 +1,16 @@
 -- What is written for a byte string is its report: the lines that the code finds are those of 01.
 use mathlib.Core.Bool.{Bool, true, false, not, _&&_}
 use mathlib.Core.List.{List, [], _∷_, _++_, map, append-assoc, append-nil}
-use mathlib.Core.Option.{Option, some, Option·getD}
 use mathlib.Core.Path.{_≡_, refl, sym, ap, ap₂, _∙_, subst⁻¹}
-use Prim.Native.Nat.{ℕ, zero, suc, _+_, _-_, _*_, _≤_, _<_, zero-le}
+use Prim.Native.Nat.{ℕ, zero, suc, _+_, _-_, _*_, _≤_, _<_}
 use native.Mathlib.Nat.{zero-add, add-zero, add-suc, suc-add, le-refl}
 use native.Mathlib.Omega.{arith}
 use borrow.Author.Tests.{le-leb, lt-leb}
 use lib.Dec.{leb}
-use lib.ListN.{length, getD, take, drop, replicate, length-append, length-take, length-drop, length-map, length-replicate, getD-replicate, List·getD-append, List·getD-map}
+use lib.ListN.{length, getD, take, drop, replicate, length-append, length-take, length-drop, length-map, length-replicate, List·getD-append, List·getD-map}
 use lib.Seq.{take-at, length-take-le, getD-take, getD-drop, ext-getD}
 use Rattle.theory.specs.Tasks.{Task, task-at, frame-count, Admitted as IsAdmitted}
-use Rattle.theory.specs.Analysis.{Verdict, holds, missed, verdict, lower, blocking, passes, response-of}
+use Rattle.theory.specs.Analysis.{Verdict, holds, missed, verdict, lower, blocking, passes}
 use Rattle.theory.proofs.Laws.{passes-frames, response-of-is}
 use Rattle.sheet.specs.Constants.{most-tasks, most-frames, least-size, greatest-size}
 use Rattle.sheet.specs.Admission.{outcome}
@@ -36,7 +35,7 @@ use Rattle.order.proofs.Laws.{ordered-length, ordered-at, ordered-admitted, ord
 use Rattle.order.proofs.Order.{order-length, order-permutes}
 use Rattle.order.proofs.Records.{any-default}
 use Rattle.analysis.specs.Answers.{outcome-by, refused-analysis, analysis-by, sheet-analysis}
-use Rattle.analysis.specs.Times.{verdict-number, outcome-of, number-at, place-of, times-from, places-by, places-of, places-from, times-of}
+use Rattle.analysis.specs.Times.{verdict-number, outcome-of, number-at, place-of, times-from, places-by, places-of, times-of}
 use Rattle.analysis.specs.declared.Analysis.{Analysis}
 use Rattle.analysis.specs.declared.Outcome.the-variants.{Refused}
 use Rattle.analysis.proofs.Entries.{small-ordered, times-long}

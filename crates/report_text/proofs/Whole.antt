@@ -1,7 +1,7 @@
 -- A text put at the start of an empty room.
-use mathlib.Core.List.{List, [], _∷_, _++_}
-use mathlib.Core.Path.{_≡_, refl, ap, _∙_}
-use Prim.Native.Nat.{ℕ, zero, suc, _+_, _-_, _≤_}
+use mathlib.Core.List.{List, _++_}
+use mathlib.Core.Path.{_≡_, ap, _∙_}
+use Prim.Native.Nat.{ℕ, zero, suc, _-_, _≤_}
 use native.Mathlib.Nat.{zero-add, sub-zero, suc-sub-suc, zero-sub, le-add-right}
 use lib.ListN.{length, drop, replicate, length-append}
 use Rattle.report_text.specs.Put.{Put}

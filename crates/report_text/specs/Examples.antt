@@ -1,6 +1,6 @@
 -- 01: "Case F .. prints in full", computed from the definitions.
 use mathlib.Core.Bool.{xor}
-use mathlib.Core.List.{List, [], _∷_, map}
+use mathlib.Core.List.{List, [], _∷_}
 use mathlib.Core.Path.{_≡_, refl}
 use Rattle.bits.specs.Packed.{value, digits, bits-of, bytes-of}
 use Rattle.check_word.specs.Division.{added, polynomial, divided, remainder, started, check-word, seal, body, sealed}

@@ -8,8 +8,6 @@ use Rattle.theory.specs.Analysis.{lower, blocking, passes}
 use Rattle.sheet.specs.Refusals.{number-of}
 use Rattle.sheet.specs.Admission.{outcome}
 use Rattle.sheet.specs.Reading.{sheet-checks, policy-of, tasks-of}
-use Rattle.sheet.specs.declared.Answer.{Answer}
-use Rattle.sheet.specs.declared.Answer.the-variants.{Admitted}
 use Rattle.order.specs.Order.{priority-order, ordered-set}
 use Rattle.order.specs.declared.Blocker.{Blocker}
 use Rattle.order.specs.declared.Blocker.the-variants.{At, Nobody}

@@ -1,9 +1,8 @@
 -- `put_line` meets its contract.
 use borrow.Author.Needs.{needs}
 use native.Mathlib.Omega.{arith}
-use denote.Ref.{now}
-use Rattle.report_text.proofs.Put.{put-room, put-then}
-use Rattle.report_text.proofs.Lines.{head-length, line-missed, line-times}
+use Rattle.report_text.proofs.Put.{put-room}
+use Rattle.report_text.proofs.Lines.{head-length, put-missed, put-passing}
 use Rattle.report_text.proofs.put_line.Statement.{statement}
 use Rattle.report_text.proofs.put_line.Tie as tie
 use Rattle.report_text.proofs.put_line.Reads as reads
@@ -28,7 +27,7 @@ same-length : tie.Need-same-length
 same-length c = search needs
 
 returns : tie.Need-returns
-returns c = let a = c .before .before .before .before .before .before .before .before .before .before .before .before .before .args in rw (← line-missed _ _ _ _ (now (a .times)) (omega arith)) (put-then (omega arith) (c .before .before .before .before .before .before .before .before .before .put-head .ensures) (c .before .before .put-word .ensures))
+returns c = put-missed _ _ _ _ _ (omega arith) (c .before .before .before .before .before .before .before .before .before .put-head .ensures) (omega arith) (c .before .before .put-word .ensures)
 
 put-times-requires : tie.Need-put-times-requires
 put-times-requires c κs = (omega arith, omega (arith, put-room (c .before .before .before .before .before .put-head .ensures) 36 88 (head-length _ _ _ _ (omega arith)) (omega arith)))
@@ -37,7 +36,7 @@ same-length-2 : tie.Need-same-length-2
 same-length-2 c = search needs
 
 returns-2 : tie.Need-returns-2
-returns-2 c = let a = c .before .before .before .before .before .before .before .before .before .before .before .before .args in rw (← line-times _ _ _ _ (now (a .times)) (omega arith) (c .before .before .before .before .if1 .left)) (put-then (omega arith) (c .before .before .before .before .before .before .before .before .put-head .ensures) (c .before .before .put-times .ensures))
+returns-2 c = put-passing _ _ _ _ _ (omega arith) (c .before .before .before .before .before .before .before .before .put-head .ensures) (omega arith) (c .before .before .before .before .if1 .left) (c .before .before .put-times .ensures)
 
 pub put-line-spec : {M : Type 1} → statement M
 put-line-spec =
