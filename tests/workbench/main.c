@@ -125,7 +125,7 @@ static int two_times(const uint8_t *times, uint32_t first, uint32_t second)
 
 static int self_test(const char *folder)
 {
-    uint8_t f[SHEET_MOST + 1], g[SHEET_MOST + 1], times[TIMES_MOST];
+    uint8_t f[SHEET_MOST + 1] = {0}, g[SHEET_MOST + 1], times[TIMES_MOST];
     char path[4096];
     size_t f_len, g_len;
     snprintf(path, sizeof path, "%s/f.sheet", folder);

@@ -1,3 +1,4 @@
+-- Laws of numbers, bytes and fields, below the laws of the two public faces.
 pub mod Laws
 pub mod Numbers
 pub mod Tests

@@ -1,1 +1,2 @@
+-- The statement over the table of cases.
 pub mod Cases

@@ -1,1 +1,2 @@
+-- The numbers by which C programs see the leaves.
 pub mod Numbers

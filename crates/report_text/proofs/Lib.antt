@@ -1,3 +1,4 @@
+-- Laws of text put into room, line by line, and of the whole report.
 pub mod Put
 pub mod Decimal
 pub mod Line

@@ -195,7 +195,7 @@ fn lists_are_analysed_alike() {
         let list = generate::littered(&mut random, set.list());
         let room = room(&mut random, MOST_FRAMES * list.len());
         let answer = compared.analyse(set.policy, &list, room);
-        if answer % 32 == 0 {
+        if answer.is_multiple_of(32) {
             *verdicts.entry(verdict(answer / 32)).or_insert(0u64) += 1;
         }
         if random.below(4) == 0 {
