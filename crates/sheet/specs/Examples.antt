@@ -18,7 +18,7 @@ use Rattle.sheet.specs.Reading.{some-set, layout-checks, sheet-checks, p
 use Rattle.sheet.specs.Writing.{header-bits, task-bits, tasks-bits, whole-bytes, sheet-of}
 use Rattle.sheet.specs.declared.Answer.{Answer}
 use Rattle.sheet.specs.declared.Answer.the-variants.{Admitted, Refused}
-use Rattle.sheet.specs.declared.Refusal.the-variants.{TaskCount, IllFormed, Lock, NotMonotonic}
+use Rattle.sheet.specs.declared.Refusal.the-variants.{TaskCount, FrameCount, IllFormed, Lock, NotMonotonic}
 
 -- a task with D = T and Q = 0
 abbrev pub plain : ℕ → List ℕ → Task
@@ -94,6 +94,12 @@ answer-to-late = refl
 pub answer-to-locked : answer-to (record { period = 10; deadline = 10; lock = 4; frames = 3 ∷ [] } ∷ []) ≡ Refused (Lock 0)
 unfolding lists
 answer-to-locked = refl
+
+-- "7 task by task, then task by task 9": a first task with D above T and a second with no frame
+pub seven-before-nine :
+    answer-to (record { period = 10; deadline = 11; lock = 0; frames = 3 ∷ [] } ∷ plain 10 [] ∷ []) ≡ Refused (FrameCount 1)
+unfolding lists
+seven-before-nine = refl
 
 -- the largest set: 16 tasks, 8 frames, every time the greatest
 abbrev largest-set : List Task
