@@ -11,9 +11,10 @@ use Rattle.theory.specs.Tasks.{Task}
 use Rattle.theory.proofs.Search.{some-found, none-found}
 use Rattle.sheet.specs.Constants.{most-tasks, most-frames, deadline-monotonic}
 use Rattle.sheet.specs.Tasks.{task-in, records-of}
-use Rattle.sheet.specs.Admission.{_⇒_, outcome, in-range, well-formed, lock-fits, monotonic, policy-check, task-count-check, frame-count-check, task-checks, frame-count-checks, list-checks, admission}
+use Rattle.lent.specs.Checks.{_⇒_}
+use Rattle.sheet.specs.Admission.{decided, in-range, well-formed, lock-fits, monotonic, policy-check, task-count-check, frame-count-check, task-checks, frame-count-checks, list-checks, admission}
 use Rattle.sheet.specs.declared.Task.{Task as Record}
-use Rattle.sheet.specs.declared.Sheet.{Sheet}
+use Rattle.sheet.specs.declared.TaskSet.{TaskSet}
 use Rattle.sheet.specs.declared.Answer.{Answer}
 use Rattle.sheet.specs.declared.Answer.the-variants.{Admitted, Refused}
 use Rattle.sheet.specs.declared.Refusal.{Refusal}
@@ -45,60 +46,60 @@ module _ (i : ℕ) (t : Task) (ts : List Task) where
   unfolding task-checks
   task-first = refl
 
-  pub ill-formed : (in-range t && well-formed t) ≡ false → outcome (task-checks i (t ∷ ts)) ≡ Refused (IllFormed i)
+  pub ill-formed : (in-range t && well-formed t) ≡ false → decided (task-checks i (t ∷ ts)) ≡ Refused (IllFormed i)
   unfolding task-checks
   ill-formed e = applies _ _ _ (ap not e)
 
   module _ (fits : (in-range t && well-formed t) ≡ true) where
-    pub lock-above : lock-fits t ≡ false → outcome (task-checks i (t ∷ ts)) ≡ Refused (Lock i)
+    pub lock-above : lock-fits t ≡ false → decided (task-checks i (t ∷ ts)) ≡ Refused (Lock i)
     unfolding task-checks
     lock-above e = passed-over _ _ _ (ap not fits) ∙ applies _ _ _ (ap not e)
 
     module _ (below : lock-fits t ≡ true) where
-      to-the-third : outcome (task-checks i (t ∷ ts)) ≡ outcome ((not (monotonic t) ⇒ NotMonotonic i) ∷ task-checks (suc i) ts)
+      to-the-third : decided (task-checks i (t ∷ ts)) ≡ decided ((not (monotonic t) ⇒ NotMonotonic i) ∷ task-checks (suc i) ts)
       unfolding task-checks
       to-the-third = passed-over _ _ _ (ap not fits) ∙ passed-over _ _ _ (ap not below)
 
-      pub no-start : start-of t ≡ Nowhere → outcome (task-checks i (t ∷ ts)) ≡ Refused (NotMonotonic i)
+      pub no-start : start-of t ≡ Nowhere → decided (task-checks i (t ∷ ts)) ≡ Refused (NotMonotonic i)
       unfolding start-of monotonic
       no-start e = to-the-third ∙ applies _ _ _ (ap not (none-found (found-nowhere _ e)))
 
-      pub passed : (s : ℕ) → start-of t ≡ At s → outcome (task-checks i (t ∷ ts)) ≡ outcome (task-checks (suc i) ts)
+      pub passed : (s : ℕ) → start-of t ≡ At s → decided (task-checks i (t ∷ ts)) ≡ decided (task-checks (suc i) ts)
       unfolding start-of monotonic
       passed s e = to-the-third ∙ passed-over _ _ _ (ap not (some-found (found-at _ s e)))
 
-pub no-more : (i : ℕ) → outcome (task-checks i []) ≡ Admitted
-unfolding task-checks outcome
+pub no-more : (i : ℕ) → decided (task-checks i []) ≡ Admitted
+unfolding task-checks decided
 no-more i = refl
 
 -- ---- task by task
 
 -- the answer to the records from i on
 pub tasks-left : List Record → ℕ → ℕ → Answer
-tasks-left records count i = outcome (task-checks i (map task-in (remaining records count i)))
+tasks-left records count i = decided (task-checks i (map task-in (remaining records count i)))
 
 pub counts-left : List Record → ℕ → ℕ → Answer
-counts-left records count i = outcome (frame-count-checks i (remaining records count i))
+counts-left records count i = decided (frame-count-checks i (remaining records count i))
 
 module _ (records : List Record) (count : ℕ) where
-  pub tasks-all : tasks-left records count 0 ≡ outcome (task-checks 0 (map task-in (take count records)))
+  pub tasks-all : tasks-left records count 0 ≡ decided (task-checks 0 (map task-in (take count records)))
   unfolding tasks-left
   tasks-all = rw (all-remain records count)
 
-  pub counts-all : counts-left records count 0 ≡ outcome (frame-count-checks 0 (take count records))
+  pub counts-all : counts-left records count 0 ≡ decided (frame-count-checks 0 (take count records))
   unfolding counts-left
   counts-all = rw (all-remain records count)
 
   module _ (there : count ≤ length records) where
     module _ (i : ℕ) (d : Record) (h : i < count) where
       task-turn : tasks-left records count i
-          ≡ outcome (task-checks i (task-in (getD records i d) ∷ []) ++ task-checks (i + 1) (map task-in (remaining records count (i + 1))))
+          ≡ decided (task-checks i (task-in (getD records i d) ∷ []) ++ task-checks (i + 1) (map task-in (remaining records count (i + 1))))
       unfolding tasks-left
       task-turn =
           rw (one-remains records count there i d h, add-one i)
-          (ap outcome (task-first i (task-in (getD records i d)) (map task-in (remaining records count (suc i)))))
+          (ap decided (task-first i (task-in (getD records i d)) (map task-in (remaining records count (suc i)))))
 
-      module _ (a : Answer) (e : a ≡ outcome (task-checks i (task-in (getD records i d) ∷ []))) where
+      module _ (a : Answer) (e : a ≡ decided (task-checks i (task-in (getD records i d) ∷ []))) where
         pub tasks-pass : a ≡ Admitted → tasks-left records count (i + 1) ≡ tasks-left records count i
         unfolding tasks-left
         tasks-pass p = sym (task-turn ∙ admitted-first _ _ (sym e ∙ p))
@@ -107,12 +108,12 @@ module _ (records : List Record) (count : ℕ) where
         tasks-refuse r p = task-turn ∙ refused-first _ _ r (sym e ∙ p)
 
       count-turn : counts-left records count i
-          ≡ outcome (frame-count-check i (getD records i d .«frame_count») ∷ frame-count-checks (i + 1) (remaining records count (i + 1)))
+          ≡ decided (frame-count-check i (getD records i d .«frame_count») ∷ frame-count-checks (i + 1) (remaining records count (i + 1)))
       unfolding counts-left frame-count-checks
       count-turn = rw (one-remains records count there i d h, add-one i)
 
       module _ (n : ℕ) (e : n ≡ getD records i d .«frame_count») where
-        count-is : outcome (frame-count-check i n ∷ frame-count-checks (i + 1) (remaining records count (i + 1))) ≡ counts-left records count i
+        count-is : decided (frame-count-check i n ∷ frame-count-checks (i + 1) (remaining records count (i + 1))) ≡ counts-left records count i
         count-is = rw (← e) at (sym count-turn)
 
         pub counts-zero : n ≡ 0 → Refused (FrameCount i) ≡ counts-left records count i
@@ -128,25 +129,25 @@ module _ (records : List Record) (count : ℕ) where
         counts-pass z l = sym (passed-over _ _ _ (within-range n most-frames z l)) ∙ count-is
 
     pub tasks-end : (i : ℕ) → count ≤ i → tasks-left records count i ≡ Admitted
-    unfolding tasks-left task-checks outcome
+    unfolding tasks-left task-checks decided
     tasks-end i h = rw (none-remain records count there i h)
 
     pub counts-end : (i : ℕ) → count ≤ i → counts-left records count i ≡ Admitted
-    unfolding counts-left frame-count-checks outcome
+    unfolding counts-left frame-count-checks decided
     counts-end i h = rw (none-remain records count there i h)
 
 -- ---- a list
 
-module _ (s : Sheet) where
+module _ (s : TaskSet) where
   pub policy-refused : deadline-monotonic < s .policy → admission s ≡ Refused Policy
   unfolding admission list-checks policy-check
-  policy-refused h = applies _ _ _ (lt-ltb deadline-monotonic (s .policy) h)
+  policy-refused h = applies _ _ _ (large-unknown (s .policy) h)
 
   module _ (known : s .policy ≤ deadline-monotonic) where
     to-the-second : admission s
-        ≡ outcome (task-count-check (s .«task_count») ∷ frame-count-checks 0 (records-of s) ++ task-checks 0 (map task-in (records-of s)))
+        ≡ decided (task-count-check (s .«task_count») ∷ frame-count-checks 0 (records-of s) ++ task-checks 0 (map task-in (records-of s)))
     unfolding admission list-checks policy-check
-    to-the-second = passed-over _ _ _ (le-ltb deadline-monotonic (s .policy) known)
+    to-the-second = passed-over _ _ _ (policy-passes (s .policy) (small-known (s .policy) known))
 
     pub no-task : s .«task_count» ≡ 0 → admission s ≡ Refused TaskCount
     unfolding task-count-check
@@ -158,13 +159,13 @@ module _ (s : Sheet) where
       many-tasks l = to-the-second ∙ applies _ _ _ (over-out (s .«task_count») most-tasks some-task l)
 
       module _ (few : s .«task_count» ≤ most-tasks) where
-        pub by-task : admission s ≡ outcome (frame-count-checks 0 (records-of s) ++ task-checks 0 (map task-in (records-of s)))
+        pub by-task : admission s ≡ decided (frame-count-checks 0 (records-of s) ++ task-checks 0 (map task-in (records-of s)))
         unfolding task-count-check
         by-task = to-the-second ∙ passed-over _ _ _ (within-range (s .«task_count») most-tasks some-task few)
 
-        module _ (a : Answer) (e : a ≡ outcome (frame-count-checks 0 (records-of s))) where
+        module _ (a : Answer) (e : a ≡ decided (frame-count-checks 0 (records-of s))) where
           pub count-refused : (r : Refusal) → a ≡ Refused r → admission s ≡ Refused r
           count-refused r p = by-task ∙ refused-first _ _ r (sym e ∙ p)
 
-          pub counts-admitted : a ≡ Admitted → admission s ≡ outcome (task-checks 0 (map task-in (records-of s)))
+          pub counts-admitted : a ≡ Admitted → admission s ≡ decided (task-checks 0 (map task-in (records-of s)))
           counts-admitted p = by-task ∙ admitted-first _ _ (sym e ∙ p)

@@ -8,4 +8,3 @@ pub mod Starts
 pub mod Frames
 pub mod Fits
 pub mod Answers
-pub mod Admitted

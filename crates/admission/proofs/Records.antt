@@ -5,7 +5,7 @@ use Prim.Native.Nat.{ℕ, min}
 use lib.ListN.{length, take}
 use Rattle.sheet.specs.Tasks.{task-in, records-of}
 use Rattle.sheet.specs.declared.Task.{Task as Record}
-use Rattle.sheet.specs.declared.Sheet.{Sheet}
+use Rattle.sheet.specs.declared.TaskSet.{TaskSet}
 use Rattle.admission.proofs.Remaining.{taken-places}
 
 -- what the code's count takes of a list of places is what the count given takes
@@ -18,7 +18,7 @@ pub frames-in : (r : Record) (count room : ℕ) → (room ≡ 8) × (length (r .
 unfolding task-in
 frames-in r count room p e = in-use (r .frames) (r .«frame_count») 8 count room (p .0) (p .1) e
 
-pub records-in : (s : Sheet) (count room : ℕ) → (room ≡ 16) × (length (s .tasks) ≡ 16) → count ≡ min (s .«task_count») room
+pub records-in : (s : TaskSet) (count room : ℕ) → (room ≡ 16) × (length (s .tasks) ≡ 16) → count ≡ min (s .«task_count») room
     → take count (s .tasks) ≡ records-of s
 unfolding records-of
 records-in s count room p e = in-use (s .tasks) (s .«task_count») 16 count room (p .0) (p .1) e

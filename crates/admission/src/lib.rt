@@ -6,13 +6,14 @@ ghost use Prim.Native.Nat.{suc, _^_, _%_, _≤_, _<_, min};
 ghost use lib.ListN.{length, take};
 ghost use Rattle.theory.specs.Tasks.{largest, qualifies};
 ghost use Rattle.sheet.specs.Tasks.{task-in, records-of};
-ghost use Rattle.sheet.specs.Admission.{outcome, in-range, well-formed, lock-fits, task-checks, frame-count-checks, admission};
+ghost use Rattle.sheet.specs.Admission.{decided, in-range, well-formed, lock-fits, task-checks, frame-count-checks, admission};
 ghost use Rattle.admission.specs.Start.{start-of};
 ghost use Rattle.admission.specs.Frames.{of-frames, from-at-least, all-between};
 use sheet::Answer;
 use sheet::Refusal;
 use sheet::Sheet;
 use sheet::Task;
+use sheet::TaskSet;
 
 // The start frame of a task, if it has one.
 pub enum Start {
@@ -184,7 +185,7 @@ fn lock_fits(task: Task) -> bool
 
 // 9, 10, 11 of one task.
 fn task_answer(task: Task, number: u32) -> Answer
-    ensures { λ r. ⌜ r ≡ outcome (task-checks number (task-in task ∷ [])) ⌝ }
+    ensures { λ r. ⌜ r ≡ decided (task-checks number (task-in task ∷ [])) ⌝ }
 {
     let formed = well_formed(task);
     let fits = lock_fits(task);
@@ -201,12 +202,12 @@ fn task_answer(task: Task, number: u32) -> Answer
 }
 
 // 9, 10, 11 task by task.
-pub fn admit_tasks(sheet: Sheet) -> Answer
-    ensures { λ r. ⌜ r ≡ outcome (task-checks 0 (map task-in (records-of sheet))) ⌝ }
+pub fn admit_tasks(set: TaskSet) -> Answer
+    ensures { λ r. ⌜ r ≡ decided (task-checks 0 (map task-in (records-of set))) ⌝ }
 {
-    let count = in_use(sheet.task_count, task_places(sheet.tasks));
+    let count = in_use(set.task_count, task_places(set.tasks));
     for i in 0..count {
-        let task = sheet.tasks[i];
+        let task = set.tasks[i];
         let answer = task_answer(task, i as u32);
         if let Answer::Refused(refusal) = answer {
             return Answer::Refused(refusal);
@@ -216,12 +217,12 @@ pub fn admit_tasks(sheet: Sheet) -> Answer
 }
 
 // 7 task by task.
-fn frame_counts(sheet: Sheet) -> Answer
-    ensures { λ r. ⌜ r ≡ outcome (frame-count-checks 0 (records-of sheet)) ⌝ }
+fn frame_counts(set: TaskSet) -> Answer
+    ensures { λ r. ⌜ r ≡ decided (frame-count-checks 0 (records-of set)) ⌝ }
 {
-    let count = in_use(sheet.task_count, task_places(sheet.tasks));
+    let count = in_use(set.task_count, task_places(set.tasks));
     for i in 0..count {
-        let task = sheet.tasks[i];
+        let task = set.tasks[i];
         let n = task.frame_count;
         if n == 0 {
             return Answer::Refused(Refusal::FrameCount(i as u32));
@@ -234,22 +235,22 @@ fn frame_counts(sheet: Sheet) -> Answer
 }
 
 // The order for a list: 4, 6, 7 task by task, then task by task 9, 10, 11.
-pub fn admit(sheet: Sheet) -> Answer
-    ensures { λ r. ⌜ r ≡ admission sheet ⌝ }
+pub fn admit(set: TaskSet) -> Answer
+    ensures { λ r. ⌜ r ≡ admission set ⌝ }
 {
-    if Sheet::DEADLINE_MONOTONIC < sheet.policy {
+    if Sheet::DEADLINE_MONOTONIC < set.policy {
         return Answer::Refused(Refusal::Policy);
     }
-    let count = sheet.task_count;
+    let count = set.task_count;
     if count == 0 {
         return Answer::Refused(Refusal::TaskCount);
     }
     if Sheet::MOST_TASKS < count {
         return Answer::Refused(Refusal::TaskCount);
     }
-    let answer = frame_counts(sheet);
+    let answer = frame_counts(set);
     if let Answer::Refused(refusal) = answer {
         return Answer::Refused(refusal);
     }
-    admit_tasks(sheet)
+    admit_tasks(set)
 }

@@ -10,7 +10,7 @@ use lib.ListN.{length, getD, take, drop, set, replicate, length-append, length-r
 use lib.Seq.{paste, paste-zero, paste-suc, length-paste, take-all, take-at, drop-at}
 use Rattle.theory.specs.Tasks.{Task, task-at, frame-count}
 use Rattle.analysis.specs.Times.{place-of, places-of, places-from}
-use Rattle.order.specs.Ordered.{tasks-of}
+use Rattle.order.specs.Ordered.{tasks-in-order}
 use Rattle.order.specs.declared.Ordered.{Ordered}
 use Rattle.analysis.specs.Rows.{row-of, rows-of}
 use Rattle.analysis.specs.Ready.{numbers-of, all-times}
@@ -90,6 +90,6 @@ module _ (order : List ℕ) (set : List Task) where
         let eight : getD (rows-of set) p (record { passes = false; times = [] }) .times ≡ places-of set p = ap (λ (r : Row). r .times) (row-is set p _ l) in
         rw (et, er, eight, front i, rest i h, ep) (joined i)
 
-pub up-to-all : (o : Ordered) (i : ℕ) → length (tasks-of o) ≡ i → up-to (numbers-of o) (tasks-of o) i ≡ all-times o
+pub up-to-all : (o : Ordered) (i : ℕ) → length (tasks-in-order o) ≡ i → up-to (numbers-of o) (tasks-in-order o) i ≡ all-times o
 unfolding up-to all-times
 up-to-all o i e = rw (← e)

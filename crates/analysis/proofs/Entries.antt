@@ -11,10 +11,11 @@ use lib.ListN.{length, getD, take, drop, replicate, List·getD-eq-default, lengt
 use lib.Seq.{take-at}
 use Rattle.theory.specs.Tasks.{Task, task-at, frame-count, Admitted as IsAdmitted}
 use Rattle.theory.specs.Analysis.{verdict}
-use Rattle.sheet.specs.Tasks.{task-in, records-of, sheet-with}
-use Rattle.sheet.specs.Admission.{Check, outcome, list-checks, admission}
+use Rattle.sheet.specs.Tasks.{task-in, records-of, set-with}
+use Rattle.lent.specs.Checks.{Check}
+use Rattle.sheet.specs.Admission.{decided, list-checks, admission}
 use Rattle.sheet.specs.Reading.{sheet-checks, policy-of, tasks-of, reading}
-use Rattle.sheet.specs.declared.Sheet.{Sheet}
+use Rattle.sheet.specs.declared.TaskSet.{TaskSet}
 use Rattle.sheet.specs.declared.Reading.{Reading}
 use Rattle.sheet.specs.declared.Answer.{Answer}
 use Rattle.sheet.specs.declared.Answer.the-variants.{Admitted}
@@ -28,7 +29,7 @@ use Rattle.sheet.proofs.Carried.{Carried, by-admission, count-in-use, by-readin
 use Rattle.sheet.proofs.Analysable.{admitted-set-is-admitted}
 use Rattle.order.specs.Order.{priority-order, ordered-set}
 use Rattle.order.specs.Ordered.{order-of, ordered}
-use Rattle.order.specs.Ordered.{tasks-of as tasks-in-order}
+use Rattle.order.specs.Ordered.{tasks-in-order}
 use Rattle.order.specs.declared.Ordered.{Ordered}
 use Rattle.order.proofs.Laws.{ordered-length, ordered-at, ordered-admitted, ordered-tasks, ordered-count, order-of-length}
 use Rattle.analysis.specs.Times.{verdict-number, outcome-of, places-from, times-of}
@@ -62,7 +63,7 @@ module _ (policy : ℕ) (tasks : List Task) (counted : Each FramesCounted tasks)
   unfolding times-of
   times-long = length-all _ _ small-ordered 0 (length tasks)
 
-module _ (s : Sheet) (room : length (s .tasks) ≡ 16) (e : admission s ≡ Admitted) where
+module _ (s : TaskSet) (room : length (s .tasks) ≡ 16) (e : admission s ≡ Admitted) where
   abbrev tasks : List Task
   tasks = map task-in (records-of s)
 
@@ -105,41 +106,41 @@ unfolding delivered-outcome delivered analysis-by
 placed-well policy tasks room h l =
     rw (le-ltb (length room) (8 * length tasks) h) (refl, ap (λ (x : List ℕ). x ++ drop (8 * length tasks) room) (take-at (times-of policy tasks) _ (8 * length tasks) l))
 
-pub none-applies : outcome [] ≡ Admitted
-unfolding outcome
+pub none-applies : decided [] ≡ Admitted
+unfolding decided
 none-applies = refl
 
 -- checks that answer so, and last the room for the times of n tasks
-module _ (cs : List Check) (policy n : ℕ) (tasks : List Task) (room : List ℕ)
-    (count : outcome cs ≡ Admitted → n ≡ length tasks) (long : outcome cs ≡ Admitted → length (times-of policy tasks) ≡ 8 * length tasks) where
+module _ (cs : List (Check Refusal)) (policy n : ℕ) (tasks : List Task) (room : List ℕ)
+    (count : decided cs ≡ Admitted → n ≡ length tasks) (long : decided cs ≡ Admitted → length (times-of policy tasks) ≡ 8 * length tasks) where
   abbrev last : Answer
-  last = outcome (cs ++ room-check (length room) n ∷ [])
+  last = decided (cs ++ room-check (length room) n ∷ [])
 
-  pub delivery : (delivered-outcome (analysis-by (outcome cs) policy tasks) (length room) ≡ outcome-by last policy tasks)
-      × (delivered (analysis-by (outcome cs) policy tasks) room ≡ left-by last policy tasks room)
+  pub delivery : (delivered-outcome (analysis-by (decided cs) policy tasks) (length room) ≡ outcome-by last policy tasks)
+      × (delivered (analysis-by (decided cs) policy tasks) room ≡ left-by last policy tasks room)
   unfolding outcome-by left-by room-check
-  delivery = go (outcome cs) refl
+  delivery = go (decided cs) refl
     where
-      full : outcome cs ≡ Admitted → length room < 8 * n → last ≡ refused Room
+      full : decided cs ≡ Admitted → length room < 8 * n → last ≡ refused Room
       full e h = admitted-first cs _ e ∙ applies _ Room [] (lt-ltb (length room) (8 * n) h)
 
-      free : outcome cs ≡ Admitted → 8 * n ≤ length room → last ≡ Admitted
+      free : decided cs ≡ Admitted → 8 * n ≤ length room → last ≡ Admitted
       free e h = admitted-first cs _ e ∙ passed-over _ Room [] (le-ltb (length room) (8 * n) h) ∙ none-applies
 
-      roomy : outcome cs ≡ Admitted → Dec (length room < 8 * n)
-          → (delivered-outcome (analysis-by (outcome cs) policy tasks) (length room) ≡ outcome-by last policy tasks)
-          × (delivered (analysis-by (outcome cs) policy tasks) room ≡ left-by last policy tasks room)
+      roomy : decided cs ≡ Admitted → Dec (length room < 8 * n)
+          → (delivered-outcome (analysis-by (decided cs) policy tasks) (length room) ≡ outcome-by last policy tasks)
+          × (delivered (analysis-by (decided cs) policy tasks) room ≡ left-by last policy tasks room)
       roomy e (yes h) = rw (full e h, e) (no-place policy tasks room (omega (arith, count e)))
       roomy e (no h) = rw (free e (omega arith), e) (placed-well policy tasks room (omega (arith, count e)) (long e))
 
-      go : (a : Answer) → outcome cs ≡ a
-          → (delivered-outcome (analysis-by (outcome cs) policy tasks) (length room) ≡ outcome-by last policy tasks)
-          × (delivered (analysis-by (outcome cs) policy tasks) room ≡ left-by last policy tasks room)
+      go : (a : Answer) → decided cs ≡ a
+          → (delivered-outcome (analysis-by (decided cs) policy tasks) (length room) ≡ outcome-by last policy tasks)
+          × (delivered (analysis-by (decided cs) policy tasks) room ≡ left-by last policy tasks room)
       go Admitted e = roomy e (decLt (length room) (8 * n))
       go (refused r) e = rw (refused-first cs (room-check (length room) n ∷ []) r e, e) (unroomed r policy tasks room)
 
 -- a set by value, and a sheet
-pub set-delivered : (s : Sheet) (room : List ℕ) → length (s .tasks) ≡ 16
+pub set-delivered : (s : TaskSet) (room : List ℕ) → length (s .tasks) ≡ 16
     → (delivered-outcome (set-analysis s) (length room) ≡ set-outcome s room) × (delivered (set-analysis s) room ≡ set-left s room)
 unfolding set-analysis set-outcome set-left set-answer admission
 set-delivered s room sixteen =
@@ -159,17 +160,17 @@ unfolding analysis-by refused-analysis
 few-analysed Admitted policy tasks h = h refl
 few-analysed (refused r) policy tasks h = zero-le
 
-pub few-of-set : (s : Sheet) → length (s .tasks) ≡ 16 → set-analysis s .«task_count» ≤ 16
+pub few-of-set : (s : TaskSet) → length (s .tasks) ≡ 16 → set-analysis s .«task_count» ≤ 16
 unfolding set-analysis
 few-of-set s sixteen = few-analysed (admission s) (s .policy) (map task-in (records-of s)) (λ e. by-admission s sixteen e .few-tasks)
 
 pub few-of-sheet : (s : List ℕ) → sheet-analysis s .«task_count» ≤ 16
 unfolding sheet-analysis
-few-of-sheet s = few-analysed (outcome (sheet-checks s)) (policy-of s) (tasks-of s) (λ e. by-reading s (reading-answer s ∙ e) .few-tasks)
+few-of-sheet s = few-analysed (decided (sheet-checks s)) (policy-of s) (tasks-of s) (λ e. by-reading s (reading-answer s ∙ e) .few-tasks)
 
 -- ---- by value
 
-module _ (s : Sheet) where
+module _ (s : TaskSet) where
   pub set-admitted : admission s ≡ Admitted → analysis-by Admitted (s .policy) (map task-in (records-of s)) ≡ set-analysis s
   unfolding set-analysis
   set-admitted e = rw e
@@ -180,10 +181,10 @@ module _ (s : Sheet) where
 
 module _ (s : List ℕ) where
   pub sheet-admitted : reading s .answer ≡ Admitted
-      → analysis-by Admitted (reading s .sheet .policy) (map task-in (records-of (reading s .sheet))) ≡ sheet-analysis s
-  unfolding sheet-analysis sheet-with
+      → analysis-by Admitted (reading s .set .policy) (map task-in (records-of (reading s .set))) ≡ sheet-analysis s
+  unfolding sheet-analysis set-with
   sheet-admitted e =
-      ap (λ (r : Reading). analysis-by Admitted (r .sheet .policy) (map task-in (records-of (r .sheet)))) (admitted-reading s e)
+      ap (λ (r : Reading). analysis-by Admitted (r .set .policy) (map task-in (records-of (r .set)))) (admitted-reading s e)
       ∙ ap (analysis-by Admitted (policy-of s)) (tasks-with (policy-of s) (tasks-of s))
       ∙ ap (λ (a : Answer). analysis-by a (policy-of s) (tasks-of s)) (sym (sym (reading-answer s) ∙ e))
 

@@ -12,7 +12,7 @@ use Rattle.theory.specs.Tasks.{Task, task-at, frame-count, start-frame}
 use Rattle.theory.specs.Analysis.{Higher, lower, blocking, higher}
 use Rattle.sheet.specs.Tasks.{task-in}
 use Rattle.sheet.specs.declared.Task.{Task as Record}
-use Rattle.order.specs.Ordered.{tasks-of, blocking-at}
+use Rattle.order.specs.Ordered.{tasks-in-order, blocking-at}
 use Rattle.order.specs.declared.Ordered.{Ordered}
 use Rattle.order.proofs.Below.{in-use}
 use Rattle.order.proofs.Records.{task-there}
@@ -26,14 +26,14 @@ use Rattle.analysis.proofs.Filled.{filled, none-filled, length-filled, 
 use Rattle.analysis.proofs.Rows.{row-at, length-rows, row-in}
 
 -- how many tasks an ordered set has
-pub count-is : (o : Ordered) (n : ℕ) → n ≡ min (o .count) 16 → length (o .tasks) ≡ 16 → n ≡ length (tasks-of o)
-unfolding tasks-of
+pub count-is : (o : Ordered) (n : ℕ) → n ≡ min (o .count) 16 → length (o .tasks) ≡ 16 → n ≡ length (tasks-in-order o)
+unfolding tasks-in-order
 count-is o n e l = rw (length-map (take (o .count) (o .tasks)) task-in, length-take, l) e
 
-pub task-is : (o : Ordered) (p : ℕ) (d : Record) → p < length (tasks-of o) → length (o .tasks) ≡ 16 → task-in (getD (o .tasks) p d) ≡ task-at (tasks-of o) p
+pub task-is : (o : Ordered) (p : ℕ) (d : Record) → p < length (tasks-in-order o) → length (o .tasks) ≡ 16 → task-in (getD (o .tasks) p d) ≡ task-at (tasks-in-order o) p
 task-is o p d h l =
     let n = min (o .count) 16 in
-    let same : tasks-of o ≡ map task-in (take n (o .tasks)) = in-use o 16 n refl refl l in
+    let same : tasks-in-order o ≡ map task-in (take n (o .tasks)) = in-use o 16 n refl refl l in
     let there : p < n = omega (arith, count-is o n refl l) in
     sym (ap (λ (ts : List Task). task-at ts p) same ∙ task-there (o .tasks) n p d there (omega arith))
 
@@ -48,8 +48,8 @@ no-row = record { passes = false; times = replicate 8 0 }
 pub record Grown (o : Ordered) (rows : List Row) (above : Above) (p : ℕ) : Type 0 where
   pub above-count : above .count ≡ p
   pub above-room : length (above .tasks) ≡ 16
-  pub above-are : above-in above ≡ higher (tasks-of o) p
-  pub rows-are : rows ≡ filled 16 no-row (rows-from (tasks-of o) 0 (length (tasks-of o))) p
+  pub above-are : above-in above ≡ higher (tasks-in-order o) p
+  pub rows-are : rows ≡ filled 16 no-row (rows-from (tasks-in-order o) 0 (length (tasks-in-order o))) p
 
 pub none-grown : (o : Ordered) (h : HigherRecord) → Grown o (replicate 16 no-row) (record { count = 0; tasks = replicate 16 h }) 0
 unfolding above-in higher
@@ -73,25 +73,25 @@ above-more set above p r s ec hr hs ea et es =
     last : _≡_ {A = Higher} (record { task = task-in r; start = s }) (record { task = task-at set p; start = start-frame (task-at set p) })
     last = rw (es, et)
 
-pub grown-more : (o : Ordered) (rows : List Row) (above : Above) (p blocked s : ℕ) (r : Record) (row : Row) → Ready o → p < length (tasks-of o) → length (tasks-of o) ≤ 16
-    → Grown o rows above p → task-in r ≡ task-at (tasks-of o) p → blocked ≡ blocking-at o p → row ≡ row-to above blocked r → s ≡ start-frame (task-in r)
+pub grown-more : (o : Ordered) (rows : List Row) (above : Above) (p blocked s : ℕ) (r : Record) (row : Row) → Ready o → p < length (tasks-in-order o) → length (tasks-in-order o) ≤ 16
+    → Grown o rows above p → task-in r ≡ task-at (tasks-in-order o) p → blocked ≡ blocking-at o p → row ≡ row-to above blocked r → s ≡ start-frame (task-in r)
     → Grown o (lib.ListN.set rows p row) (record { count = p + 1; tasks = lib.ListN.set (above .tasks) p (record { start = s; task = r }) }) (p + 1)
 unfolding blocking-at
 grown-more o rows above p blocked s r row ready h small g et eb er es =
     record {
       above-count = refl;
       above-room = length-set (above .tasks) p _ ∙ g .above-room;
-      above-are = above-more (tasks-of o) above p r s (g .above-count) (omega (arith, g .above-room)) h (g .above-are) et es;
+      above-are = above-more (tasks-in-order o) above p r s (g .above-count) (omega (arith, g .above-room)) h (g .above-are) et es;
       rows-are =
           ap (λ (l : List Row). lib.ListN.set l p row) (g .rows-are)
-          ∙ filled-more 16 no-row (rows-from (tasks-of o) 0 (length (tasks-of o))) p no-row row (rw (length-rows (tasks-of o) 0 (length (tasks-of o))) h) (omega arith)
-          (er ∙ row-at (tasks-of o) p above blocked r (ready .framed p h) (g .above-are) eb et
-          ∙ sym (row-in (tasks-of o) 0 (length (tasks-of o)) p no-row h ∙ ap (row-of (tasks-of o)) (zero-add p)));
+          ∙ filled-more 16 no-row (rows-from (tasks-in-order o) 0 (length (tasks-in-order o))) p no-row row (rw (length-rows (tasks-in-order o) 0 (length (tasks-in-order o))) h) (omega arith)
+          (er ∙ row-at (tasks-in-order o) p above blocked r (ready .framed p h) (g .above-are) eb et
+          ∙ sym (row-in (tasks-in-order o) 0 (length (tasks-in-order o)) p no-row h ∙ ap (row-of (tasks-in-order o)) (zero-add p)));
     }
 
-pub all-grown : (o : Ordered) (rows : List Row) (above : Above) (p : ℕ) → length (tasks-of o) ≡ p → Grown o rows above p → rows ≡ rows-of (tasks-of o)
+pub all-grown : (o : Ordered) (rows : List Row) (above : Above) (p : ℕ) → length (tasks-in-order o) ≡ p → Grown o rows above p → rows ≡ rows-of (tasks-in-order o)
 unfolding rows-of
 all-grown o rows above p e g =
     g .rows-are
-    ∙ all-filled 16 no-row (rows-from (tasks-of o) 0 (length (tasks-of o))) p (length-rows (tasks-of o) 0 (length (tasks-of o)) ∙ e)
-    ∙ ap (λ (n : ℕ). rows-from (tasks-of o) 0 (length (tasks-of o)) ++ replicate (16 - n) no-row) (length-rows (tasks-of o) 0 (length (tasks-of o)))
+    ∙ all-filled 16 no-row (rows-from (tasks-in-order o) 0 (length (tasks-in-order o))) p (length-rows (tasks-in-order o) 0 (length (tasks-in-order o)) ∙ e)
+    ∙ ap (λ (n : ℕ). rows-from (tasks-in-order o) 0 (length (tasks-in-order o)) ++ replicate (16 - n) no-row) (length-rows (tasks-in-order o) 0 (length (tasks-in-order o)))

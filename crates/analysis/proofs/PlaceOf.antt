@@ -13,7 +13,7 @@ use lib.Seq.{getD-take}
 use Rattle.theory.specs.First.{first}
 use Rattle.theory.proofs.Search.{IsFirst, first-is, first-is-none, first-some, Answer, answer, nothing, it-is}
 use Rattle.sheet.specs.Tasks.{task-in}
-use Rattle.order.specs.Ordered.{tasks-of}
+use Rattle.order.specs.Ordered.{tasks-in-order}
 use Rattle.order.specs.declared.Ordered.{Ordered}
 use Rattle.analysis.specs.Times.{number-at, place-of}
 use Rattle.analysis.specs.Ready.{numbers-of}
@@ -21,20 +21,20 @@ use Rattle.analysis.specs.Ready.{numbers-of}
 -- ---- the places in use
 
 module _ (o : Ordered) (n : ℕ) (count : n ≡ min (o .count) 16) where
-  pub tasks-count : length (o .tasks) ≡ 16 → length (tasks-of o) ≡ n
-  unfolding tasks-of
+  pub tasks-count : length (o .tasks) ≡ 16 → length (tasks-in-order o) ≡ n
+  unfolding tasks-in-order
   tasks-count room = length-map (take (o .count) (o .tasks)) task-in ∙ length-take (o .count) (o .tasks) ∙ rw room (sym count)
 
   pub numbers-count : length (o .numbers) ≡ 16 → length (numbers-of o) ≡ n
   unfolding numbers-of
   numbers-count room = length-take (o .count) (o .numbers) ∙ rw room (sym count)
 
-pub tasks-within : (o : Ordered) → length (tasks-of o) ≤ o .count
-unfolding tasks-of
+pub tasks-within : (o : Ordered) → length (tasks-in-order o) ≤ o .count
+unfolding tasks-in-order
 tasks-within o = rw (length-map (take (o .count) (o .tasks)) task-in, length-take (o .count) (o .tasks)) (omega arith)
 
-pub tasks-room : (o : Ordered) (n : ℕ) → length (o .tasks) ≡ n → length (tasks-of o) ≤ n
-unfolding tasks-of
+pub tasks-room : (o : Ordered) (n : ℕ) → length (o .tasks) ≡ n → length (tasks-in-order o) ≤ n
+unfolding tasks-in-order
 tasks-room o n e = rw (length-map (take (o .count) (o .tasks)) task-in, length-take (o .count) (o .tasks)) (omega arith)
 
 pub number-is : (o : Ordered) (p : ℕ) → p < o .count → number-at (numbers-of o) p ≡ getD (o .numbers) p 0

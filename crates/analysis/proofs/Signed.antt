@@ -9,9 +9,9 @@ use Rattle.theory.specs.Tasks.{Task, task-at, frame-count}
 use Rattle.theory.specs.Tasks.{Admitted as IsAdmitted}
 use Rattle.theory.specs.Runs.{Run}
 use Rattle.sheet.specs.Tasks.{task-in, records-of}
-use Rattle.sheet.specs.Admission.{outcome, admission}
+use Rattle.sheet.specs.Admission.{decided, admission}
 use Rattle.sheet.specs.Reading.{sheet-checks, policy-of, tasks-of}
-use Rattle.sheet.specs.declared.Sheet.{Sheet}
+use Rattle.sheet.specs.declared.TaskSet.{TaskSet}
 use Rattle.sheet.specs.declared.Answer.{Answer}
 use Rattle.sheet.specs.declared.Answer.the-variants.{Admitted}
 use Rattle.sheet.specs.declared.Answer.the-variants.{Refused as refused}
@@ -79,13 +79,13 @@ signed-by policy tasks (refused r) admitted eight long =
 pub sheet-signed : (s : List ℕ) → Signed (policy-of s) (tasks-of s) (sheet-analysis s)
 unfolding sheet-analysis
 sheet-signed s =
-    signed-by (policy-of s) (tasks-of s) (outcome (sheet-checks s))
+    signed-by (policy-of s) (tasks-of s) (decided (sheet-checks s))
     (λ e. admitted-sheet-is-admitted s (reading-answer s ∙ e))
     (λ e. few (tasks-of s) (by-reading s (reading-answer s ∙ e) .counted))
     (λ e. times-long (policy-of s) (tasks-of s) (by-reading s (reading-answer s ∙ e) .counted))
 
 -- A set by value, of sixteen records.
-pub set-signed : (s : Sheet) → length (s .tasks) ≡ 16 → Signed (s .policy) (map task-in (records-of s)) (set-analysis s)
+pub set-signed : (s : TaskSet) → length (s .tasks) ≡ 16 → Signed (s .policy) (map task-in (records-of s)) (set-analysis s)
 unfolding set-analysis
 set-signed s sixteen =
     signed-by (s .policy) (map task-in (records-of s)) (admission s)

@@ -8,9 +8,10 @@ use Rattle.theory.specs.Tasks.{Task}
 use Rattle.sheet.specs.Constants.{most-frames, most-tasks}
 use Rattle.sheet.specs.Refusals.{number-of}
 use Rattle.sheet.specs.Tasks.{task-in, records-of}
-use Rattle.sheet.specs.Admission.{Check, _⇒_, outcome, list-checks, admission}
+use Rattle.lent.specs.Checks.{Check, _⇒_}
+use Rattle.sheet.specs.Admission.{decided, list-checks, admission}
 use Rattle.sheet.specs.Reading.{sheet-checks, policy-of, tasks-of}
-use Rattle.sheet.specs.declared.Sheet.{Sheet}
+use Rattle.sheet.specs.declared.TaskSet.{TaskSet}
 use Rattle.sheet.specs.declared.Answer.{Answer}
 use Rattle.sheet.specs.declared.Answer.the-variants.{Admitted}
 use Rattle.sheet.specs.declared.Answer.the-variants.{Refused as refused}
@@ -53,14 +54,14 @@ analysis-by Admitted policy tasks =
 analysis-by (refused r) policy tasks = refused-analysis r
 
 -- a set by value, and a sheet
-unfoldable pub set-analysis : Sheet → Analysis
+unfoldable pub set-analysis : TaskSet → Analysis
 set-analysis s = analysis-by (admission s) (s .policy) (map task-in (records-of s))
 
 unfoldable pub sheet-analysis : List ℕ → Analysis
-sheet-analysis s = analysis-by (outcome (sheet-checks s)) (policy-of s) (tasks-of s)
+sheet-analysis s = analysis-by (decided (sheet-checks s)) (policy-of s) (tasks-of s)
 
 -- "12: lent room too small": "8n numbers for the analysis", last of all
-unfoldable pub room-check : ℕ → ℕ → Check
+unfoldable pub room-check : ℕ → ℕ → Check Refusal
 room-check room n = ltb room (most-frames * n) ⇒ Room
 
 -- "Response times go to lent 32-bit numbers .. Numbers after the first 8n stay as they were." "A refusal .. changes no lent memory."
@@ -69,18 +70,18 @@ left-by Admitted policy tasks room = times-of policy tasks ++ drop (most-frames 
 left-by (refused r) policy tasks room = room
 
 -- a set by value, its times to lent numbers
-unfoldable pub set-answer : Sheet → ℕ → Answer
-set-answer s room = outcome (list-checks (s .policy) (s .«task_count») (records-of s) ++ room-check room (s .«task_count») ∷ [])
+unfoldable pub set-answer : TaskSet → ℕ → Answer
+set-answer s room = decided (list-checks (s .policy) (s .«task_count») (records-of s) ++ room-check room (s .«task_count») ∷ [])
 
-unfoldable pub set-outcome : Sheet → List ℕ → Outcome
+unfoldable pub set-outcome : TaskSet → List ℕ → Outcome
 set-outcome s room = outcome-by (set-answer s (length room)) (s .policy) (map task-in (records-of s))
 
-unfoldable pub set-left : Sheet → List ℕ → List ℕ
+unfoldable pub set-left : TaskSet → List ℕ → List ℕ
 set-left s room = left-by (set-answer s (length room)) (s .policy) (map task-in (records-of s)) room
 
 -- a sheet, its times to lent numbers
 unfoldable pub sheet-answer : List ℕ → ℕ → Answer
-sheet-answer s room = outcome (sheet-checks s ++ room-check room (length (tasks-of s)) ∷ [])
+sheet-answer s room = decided (sheet-checks s ++ room-check room (length (tasks-of s)) ∷ [])
 
 unfoldable pub sheet-outcome : List ℕ → List ℕ → Outcome
 sheet-outcome s room = outcome-by (sheet-answer s (length room)) (policy-of s) (tasks-of s)

@@ -15,7 +15,7 @@ mod verdict;
 use order::Blocker;
 use sheet::Answer;
 use sheet::Refusal;
-use sheet::Sheet;
+use sheet::TaskSet;
 
 // What the analysis answers: the set holds, or the first task in priority order that does not pass, with its blocker, or the one refusal.
 pub enum Outcome {
@@ -72,13 +72,13 @@ fn refused(refusal: Refusal) -> Analysis
 }
 
 // An admitted set: put in order, analysed place by place, answered by task numbers.
-fn analysed(sheet: Sheet) -> Analysis
-    requires { ⌜ admission sheet ≡ Admitted ⌝ }
-    ensures { λ r. ⌜ r ≡ analysis-by Admitted (sheet .policy) (map task-in (records-of sheet)) ⌝ }
+fn analysed(set: TaskSet) -> Analysis
+    requires { ⌜ admission set ≡ Admitted ⌝ }
+    ensures { λ r. ⌜ r ≡ analysis-by Admitted (set .policy) (map task-in (records-of set)) ⌝ }
 {
-    let tasks = sheet.tasks;
-    let count = sheet::tasks_in(sheet.task_count, tasks);
-    let o = order::in_order(sheet);
+    let tasks = set.tasks;
+    let count = sheet::tasks_in(set.task_count, tasks);
+    let o = order::in_order(set);
     let rows = passing::rows_of(o);
     let outcome = verdict::verdict_of(o, rows);
     let times = places::all_times(o, rows);
@@ -90,11 +90,11 @@ fn analysed(sheet: Sheet) -> Analysis
 }
 
 // A set by value.
-pub fn analyse(sheet: Sheet) -> Analysis
-    ensures { λ r. ⌜ r ≡ set-analysis sheet ⌝ }
+pub fn analyse(set: TaskSet) -> Analysis
+    ensures { λ r. ⌜ r ≡ set-analysis set ⌝ }
 {
-    match admission::admit(sheet) {
-        Answer::Admitted => analysed(sheet),
+    match admission::admit(set) {
+        Answer::Admitted => analysed(set),
         Answer::Refused(refusal) => refused(refusal),
     }
 }
@@ -105,20 +105,20 @@ pub fn analyse_bytes(bytes: &[u8]) -> Analysis
 {
     let reading = reader::read_sheet(bytes);
     let answer = reading.answer;
-    let sheet = reading.sheet;
+    let set = reading.set;
     match answer {
-        Answer::Admitted => analysed(sheet),
+        Answer::Admitted => analysed(set),
         Answer::Refused(refusal) => refused(refusal),
     }
 }
 
 // A set by value, its times to lent numbers.
-pub fn analyse_set(sheet: Sheet, times: &mut [u32]) -> Outcome
-    ensures { λ r. ⌜ (r ≡ set-outcome sheet (now (times .entry))) × (now (times .exit) ≡ set-left sheet (now (times .entry))) ⌝ }
+pub fn analyse_set(set: TaskSet, times: &mut [u32]) -> Outcome
+    ensures { λ r. ⌜ (r ≡ set-outcome set (now (times .entry))) × (now (times .exit) ≡ set-left set (now (times .entry))) ⌝ }
 {
-    let tasks = sheet.tasks;
-    sheet::tasks_in(sheet.task_count, tasks);
-    let analysis = analyse(sheet);
+    let tasks = set.tasks;
+    sheet::tasks_in(set.task_count, tasks);
+    let analysis = analyse(set);
     delivery::deliver(analysis, times)
 }
 

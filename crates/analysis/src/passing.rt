@@ -5,7 +5,7 @@ ghost use Rattle.theory.specs.Tasks.{start-frame};
 ghost use Rattle.sheet.specs.Tasks.{task-in};
 ghost use Rattle.response.specs.Response.{response-to};
 ghost use Rattle.analysis.specs.Times.{places-by};
-ghost use Rattle.order.specs.Ordered.{tasks-of};
+ghost use Rattle.order.specs.Ordered.{tasks-in-order};
 ghost use Rattle.analysis.specs.Rows.{row-to, rows-of, times-to, as-written};
 ghost use Rattle.analysis.specs.Ready.{Ready};
 use crate::Row;
@@ -77,7 +77,7 @@ pub fn row_of(above: Above, blocked: u32, task: Task) -> Row
 // The rows of all places; the tasks above grow from place to place.
 pub fn rows_of(o: Ordered) -> [Row; 16]
     requires { ⌜ Ready o ⌝ }
-    ensures { λ r. ⌜ r ≡ rows-of (tasks-of o) ⌝ }
+    ensures { λ r. ⌜ r ≡ rows-of (tasks-in-order o) ⌝ }
 {
     let tasks = o.tasks;
     let count = sheet::tasks_in(o.count, tasks);

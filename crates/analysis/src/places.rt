@@ -3,7 +3,7 @@ ghost use mathlib.Core.Path.{_≡_};
 ghost use mathlib.Core.List.{_++_};
 ghost use Prim.Native.Nat.{_+_, _≤_};
 ghost use lib.ListN.{length, take, drop};
-ghost use Rattle.order.specs.Ordered.{tasks-of};
+ghost use Rattle.order.specs.Ordered.{tasks-in-order};
 ghost use Rattle.analysis.specs.Times.{place-of};
 ghost use Rattle.analysis.specs.Rows.{rows-of};
 ghost use Rattle.analysis.specs.Ready.{Ready, numbers-of, all-times};
@@ -37,7 +37,7 @@ fn put_eight(times: &mut [u32], at: usize, row: [u32; 8])
 
 // The times of all tasks.
 pub fn all_times(o: Ordered, rows: [Row; 16]) -> [u32; 128]
-    requires { ⌜ (Ready o) × (rows ≡ rows-of (tasks-of o)) ⌝ }
+    requires { ⌜ (Ready o) × (rows ≡ rows-of (tasks-in-order o)) ⌝ }
     ensures { λ r. ⌜ r ≡ all-times o ⌝ }
 {
     let tasks = o.tasks;

@@ -3,7 +3,7 @@ ghost use mathlib.Core.Path.{_≡_};
 ghost use Prim.Native.Nat.{_<_};
 ghost use lib.ListN.{length};
 ghost use Rattle.theory.specs.Analysis.{blocker, verdict};
-ghost use Rattle.order.specs.Ordered.{tasks-of};
+ghost use Rattle.order.specs.Ordered.{tasks-in-order};
 ghost use Rattle.analysis.specs.Times.{number-at, blocker-number, verdict-number};
 ghost use Rattle.analysis.specs.Rows.{rows-of};
 ghost use Rattle.analysis.specs.Ready.{numbers-of};
@@ -15,8 +15,8 @@ use order::Ordered;
 
 // The answer that names the task at place p, and its blocker.
 fn missed(o: Ordered, p: usize) -> Outcome
-    requires { ⌜ p < length (tasks-of o) ⌝ }
-    ensures { λ r. ⌜ r ≡ Missed (number-at (numbers-of o) p) (blocker-number (numbers-of o) (blocker (tasks-of o) p)) ⌝ }
+    requires { ⌜ p < length (tasks-in-order o) ⌝ }
+    ensures { λ r. ⌜ r ≡ Missed (number-at (numbers-of o) p) (blocker-number (numbers-of o) (blocker (tasks-in-order o) p)) ⌝ }
 {
     let numbers = o.numbers;
     let number = numbers[p];
@@ -31,8 +31,8 @@ fn missed(o: Ordered, p: usize) -> Outcome
 
 // The set holds if all tasks pass.
 pub fn verdict_of(o: Ordered, rows: [Row; 16]) -> Outcome
-    requires { ⌜ rows ≡ rows-of (tasks-of o) ⌝ }
-    ensures { λ r. ⌜ r ≡ verdict-number (numbers-of o) (verdict (tasks-of o)) ⌝ }
+    requires { ⌜ rows ≡ rows-of (tasks-in-order o) ⌝ }
+    ensures { λ r. ⌜ r ≡ verdict-number (numbers-of o) (verdict (tasks-in-order o)) ⌝ }
 {
     let tasks = o.tasks;
     let count = sheet::tasks_in(o.count, tasks);

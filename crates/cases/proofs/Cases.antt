@@ -8,8 +8,8 @@ use Rattle.theory.specs.First.{first, every, found}
 use Rattle.theory.specs.Tasks.{task-at, frame-count, frame, work, largest, largest-frame, qualifies, start-frame, deadline-of}
 use Rattle.theory.specs.Analysis.{lower, largest-lock, blocking, blocker, higher, releases, higher-work, demand, response, demand-of, response-of, passes, verdict}
 use Rattle.sheet.specs.Fields.{packed, total}
-use Rattle.sheet.specs.Tasks.{task-in, record-of, records-of, sheet-with, blank-record}
-use Rattle.sheet.specs.Admission.{outcome, all, is-time, in-range, well-formed, lock-fits, monotonic, policy-check, task-count-check, frame-count-check, task-checks, frame-count-checks, list-checks, admission}
+use Rattle.sheet.specs.Tasks.{task-in, record-of, records-of, set-with, blank-record}
+use Rattle.sheet.specs.Admission.{decided, all, is-time, in-range, well-formed, lock-fits, monotonic, policy-check, task-count-check, frame-count-check, task-checks, frame-count-checks, list-checks, admission}
 use Rattle.sheet.specs.Writing.{header-bits, task-bits, tasks-bits, whole-bytes, sheet-of}
 use Rattle.order.specs.Order.{key, is-higher, placed, order-from, priority-order, ordered-set}
 use Rattle.analysis.specs.Times.{number-at, place-of, blocker-number, verdict-number, outcome-of, times-from, places-by, places-of, places-from, times-of}
@@ -18,5 +18,5 @@ use Rattle.cases.specs.Table.{in-eights, Agrees, Each, table}
 
 -- Each case of the table gives its answer.
 pub cases-a-to-m : Each table
-unfolding table Each Agrees in-eights set-analysis analysis-by refused-analysis outcome-of times-of number-at place-of blocker-number verdict-number times-from places-by places-of places-from key is-higher placed order-from priority-order ordered-set admission outcome all is-time in-range well-formed lock-fits monotonic policy-check task-count-check frame-count-check task-checks frame-count-checks list-checks task-in record-of records-of sheet-with blank-record lower largest-lock blocking blocker higher releases higher-work demand response demand-of response-of passes verdict task-at frame-count frame work largest largest-frame qualifies start-frame deadline-of first every found body sheet-of seal whole-bytes header-bits tasks-bits task-bits packed bytes-of digits value
+unfolding table Each Agrees in-eights set-analysis analysis-by refused-analysis outcome-of times-of number-at place-of blocker-number verdict-number times-from places-by places-of places-from key is-higher placed order-from priority-order ordered-set admission decided all is-time in-range well-formed lock-fits monotonic policy-check task-count-check frame-count-check task-checks frame-count-checks list-checks task-in record-of records-of set-with blank-record lower largest-lock blocking blocker higher releases higher-work demand response demand-of response-of passes verdict task-at frame-count frame work largest largest-frame qualifies start-frame deadline-of first every found body sheet-of seal whole-bytes header-bits tasks-bits task-bits packed bytes-of digits value
 cases-a-to-m = (refl, (refl, (refl, (refl, (refl, (refl, (refl, (refl, (refl, (refl, (refl, (refl, (refl, (refl, tt))))))))))))))

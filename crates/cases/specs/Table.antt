@@ -6,7 +6,7 @@ use Prim.Native.Nat.{ℕ, _-_, _*_}
 use lib.ListN.{length, replicate}
 use Rattle.check_word.specs.Division.{body}
 use Rattle.theory.specs.Tasks.{Task, start-frame}
-use Rattle.sheet.specs.Tasks.{sheet-with}
+use Rattle.sheet.specs.Tasks.{set-with}
 use Rattle.sheet.specs.Writing.{sheet-of}
 use Rattle.sheet.specs.declared.Refusal.{Refusal}
 use Rattle.sheet.specs.declared.Refusal.the-variants.{NotMonotonic}
@@ -50,7 +50,7 @@ in-eights (ts ∷ rows) = ts ++ replicate (8 - length ts) 0 ++ in-eights rows
 
 unfoldable pub Agrees : Case → Answer → Type 0
 Agrees c (times outcome rows) =
-    set-analysis (sheet-with (c .policy) (c .tasks))
+    set-analysis (set-with (c .policy) (c .tasks))
     ≡ record { outcome = outcome; «task_count» = length rows; times = in-eights rows ++ replicate (128 - 8 * length rows) 0 }
 Agrees c (order numbers) = priority-order (c .policy) (c .tasks) ≡ numbers
 Agrees c (bytes front) = body (sheet-of (c .policy) (c .tasks)) ≡ front

@@ -16,15 +16,17 @@ use Rattle.sheet.specs.Tasks.{task-in, records-of, blank-record}
 use Rattle.sheet.specs.Refusals.{number-of, task-of-refusal}
 use Rattle.sheet.specs.Fields.{unpacked}
 use Rattle.sheet.specs.Layout.{header-in, tasks-in, records-in, record-width}
-use Rattle.sheet.specs.Admission.{Check, _⇒_, outcome, admission, list-checks, policy-check, task-count-check, frame-count-check, frame-count-checks, task-checks}
+use Rattle.lent.specs.Checks.{Check, _⇒_}
+use Rattle.sheet.specs.Admission.{decided, admission, list-checks, policy-check, task-count-check, frame-count-check, frame-count-checks, task-checks}
 use Rattle.sheet.specs.Reading.{sheet-checks, layout-checks, tasks-of}
 use Rattle.sheet.specs.Writing.{sheet-bytes, writing, written, written-by}
 use Rattle.sheet.specs.declared.Answer.{Answer}
 use Rattle.sheet.specs.declared.Answer.the-variants.{Admitted, Refused}
 use Rattle.sheet.specs.declared.Refusal.{Refusal}
 use Rattle.sheet.specs.declared.Refusal.the-variants.{Room}
+use Rattle.sheet.proofs.Checks.{both-passed}
 use Rattle.sheet.proofs.Small.{number-small}
-use Rattle.sheet.specs.declared.Sheet.{Sheet}
+use Rattle.sheet.specs.declared.TaskSet.{TaskSet}
 use Rattle.sheet.specs.declared.Written.{Written}
 use Rattle.sheet.specs.declared.Task.{Task as Record}
 use Rattle.theory.specs.Tasks.{Task}
@@ -39,7 +41,6 @@ use Rattle.sheet.proofs.Carried.{by-reading}
 use Rattle.sheet.proofs.Carried.{reading-answer as answer-read}
 use Rattle.sheet.proofs.Packing.{value-taken}
 use Rattle.sheet.proofs.RecordBits.{length-tasks-in}
-use Rattle.sheet.proofs.Passed.{both-passed}
 use Rattle.sheet.proofs.Sizes.{admitted-size}
 use Rattle.lists.specs.Lists.{laid, gathered-of}
 use Rattle.lists.specs.Faces.{list-analysed, list-written, list-read, list-read-by, reading-answer}
@@ -50,20 +51,20 @@ use Rattle.lists.proofs.Laws.{laid-length, laid-most}
 -- ---- the tasks that refusals name
 
 -- each check of a row names a task below k
-abbrev Names : ℕ → List Check → Type 0
+abbrev Names : ℕ → List (Check Refusal) → Type 0
 Names k [] = Unit {0}
 Names k (c ∷ cs) = (task-of-refusal (c .refusal) < k) × Names k cs
 
-names-append : (k : ℕ) (cs ds : List Check) → Names k cs → Names k ds → Names k (cs ++ ds)
+names-append : (k : ℕ) (cs ds : List (Check Refusal)) → Names k cs → Names k ds → Names k (cs ++ ds)
 names-append k [] ds n m = m
 names-append k (c ∷ cs) ds n m = (n .0, names-append k cs ds (n .1) m)
 
-outcome-names : (k : ℕ) (cs : List Check) → Names k cs → (r : Refusal) → outcome cs ≡ Refused r → task-of-refusal r < k
-unfolding outcome
-outcome-names k [] n r e = let z : _≡_ {A = ℕ} 0 1 = cc in let z : ⊥ = omega arith in absurd z
-outcome-names k (c ∷ cs) n r e = go (c .applies) e (outcome-names k cs (n .1) r)
+decided-names : (k : ℕ) (cs : List (Check Refusal)) → Names k cs → (r : Refusal) → decided cs ≡ Refused r → task-of-refusal r < k
+unfolding decided
+decided-names k [] n r e = let z : _≡_ {A = ℕ} 0 1 = cc in let z : ⊥ = omega arith in absurd z
+decided-names k (c ∷ cs) n r e = go (c .applies) e (decided-names k cs (n .1) r)
   where
-    go : (b : Bool) → elim b as (λ (x : Bool). Answer) [ true ↦ Refused (c .refusal) | false ↦ outcome cs ] ≡ Refused r → (outcome cs ≡ Refused r → task-of-refusal r < k) → task-of-refusal r < k
+    go : (b : Bool) → elim b as (λ (x : Bool). Answer) [ true ↦ Refused (c .refusal) | false ↦ decided cs ] ≡ Refused r → (decided cs ≡ Refused r → task-of-refusal r < k) → task-of-refusal r < k
     go true q rec = let z : c .refusal ≡ r = cc in subst (λ (x : Refusal). task-of-refusal x < k) z (n .0)
     go false q rec = rec q
 
@@ -97,19 +98,19 @@ gathered-length policy list =
     ∙ e
 
 module _ (policy : ℕ) (list : List Record) (room : List ℕ) where
-  abbrev set : Sheet
+  abbrev set : TaskSet
   set = gathered-of policy list
 
   records-few : length (records-of set) ≤ 32
   unfolding records-of
   records-few = rw (length-take) (omega (arith, gathered-length policy list))
 
-  row-names : (c : Check) → task-of-refusal (c .refusal) < 32 → Names 32 (list-checks policy (set .«task_count») (records-of set) ++ c ∷ [])
+  row-names : (c : Check Refusal) → task-of-refusal (c .refusal) < 32 → Names 32 (list-checks policy (set .«task_count») (records-of set) ++ c ∷ [])
   unfolding list-checks policy-check task-count-check
   row-names c h =
       let rs : List Record = records-of set in
-      let counts : List Check = frame-count-checks 0 rs in
-      let judged : List Check = task-checks 0 (map task-in rs) in (
+      let counts : List (Check Refusal) = frame-count-checks 0 rs in
+      let judged : List (Check Refusal) = task-checks 0 (map task-in rs) in (
         lit< tt,
         (
           lit< tt,
@@ -118,19 +119,19 @@ module _ (policy : ℕ) (list : List Record) (room : List ℕ) where
         ),
       )
 
-  abbrev space : Check
+  abbrev space : Check Refusal
   space = ltb (length room) (length (sheet-bytes set)) ⇒ Room
 
   pub written-small : written-code (list-written policy list room) < 2 ^ 32
   unfolding written written-by writing admission gathered-of
   written-small = subst (λ (w : Written). written-code w < 2 ^ 32) (written-gathered policy list room) (go (writing set (length room)) refl)
     where
-      checks : List Check
+      checks : List (Check Refusal)
       checks = list-checks policy (set .«task_count») (records-of set)
 
       go : (a : Answer) → writing set (length room) ≡ a → written-code (written-by a set) < 2 ^ 32
       go Admitted e = let size = admitted-size set (gathered-length policy list) (both-passed checks (space ∷ []) e .0) in omega arith
-      go (Refused r) e = refusal-small r (outcome-names 32 (checks ++ space ∷ []) (row-names space (lit< tt)) r e)
+      go (Refused r) e = refusal-small r (decided-names 32 (checks ++ space ∷ []) (row-names space (lit< tt)) r e)
 
 -- ---- a list analysed
 
@@ -159,12 +160,12 @@ module _ (policy : ℕ) (list : List Record) (room : List ℕ) where
       records : List Record
       records = records-of (set policy list room)
 
-      enough : Check
+      enough : Check Refusal
       enough = room-check (length room) (set policy list room .«task_count»)
 
       go : (a : Answer) → set-answer (set policy list room) (length room) ≡ a → outcome-code (outcome-by a policy (map task-in records)) < 2 ^ 32
       go Admitted e = missed-small (priority-order policy (map task-in records)) (verdict (ordered-set policy (map task-in records))) (λ p. omega (arith, number-few policy (map task-in records) p, records-few policy list room, length-map records task-in))
-      go (Refused r) e = refusal-small r (outcome-names 32 (list-checks policy (set policy list room .«task_count») records ++ enough ∷ []) (row-names policy list room enough (lit< tt)) r e)
+      go (Refused r) e = refusal-small r (decided-names 32 (list-checks policy (set policy list room .«task_count») records ++ enough ∷ []) (row-names policy list room enough (lit< tt)) r e)
 
 -- ---- a sheet read
 
@@ -179,11 +180,11 @@ module _ (s : List ℕ) (list : List Record) where
   unfolding header-in unpacked
   count-small = value-taken task-count-width (drop policy-width (drop version-width bits))
 
-  sheet-names : (c : Check) → task-of-refusal (c .refusal) < 32 → Names 32 (sheet-checks s ++ c ∷ [])
+  sheet-names : (c : Check Refusal) → task-of-refusal (c .refusal) < 32 → Names 32 (sheet-checks s ++ c ∷ [])
   unfolding sheet-checks policy-check task-count-check
   sheet-names c h =
-      let laid : List Check = layout-checks 0 n (records-in bits) in
-      let judged : List Check = task-checks 0 (tasks-in n (records-in bits)) in (
+      let laid : List (Check Refusal) = layout-checks 0 n (records-in bits) in
+      let judged : List (Check Refusal) = task-checks 0 (tasks-in n (records-in bits)) in (
         lit< tt,
         (
           lit< tt,
@@ -205,7 +206,7 @@ module _ (s : List ℕ) (list : List Record) where
         ),
       )
 
-  abbrev short : Check
+  abbrev short : Check Refusal
   short = ltb (length list) (length (tasks-of s)) ⇒ Room
 
   pub read-small : read-code (list-read s list) < 2 ^ 32
@@ -214,4 +215,4 @@ module _ (s : List ℕ) (list : List Record) where
     where
       go : (a : Answer) → reading-answer s (length list) ≡ a → read-code (list-read-by a s) < 2 ^ 32
       go Admitted e = let c = by-reading s (answer-read s ∙ both-passed (sheet-checks s) (short ∷ []) e .0) in omega (arith, c .policy-known, c .few-tasks)
-      go (Refused r) e = refusal-small r (outcome-names 32 (sheet-checks s ++ short ∷ []) (sheet-names short (lit< tt)) r e)
+      go (Refused r) e = refusal-small r (decided-names 32 (sheet-checks s ++ short ∷ []) (sheet-names short (lit< tt)) r e)

@@ -32,12 +32,12 @@ use denote.Triple.Spec.{Meets, tripleOf}
 use denote.Triple.Statement.{Triple}
 use denote.Triple.Walked.{says, Stays, stay-dropped, gave-slice, walkOf, goes-dropped, goes-gave-slice, Walks, ends-at, walked, walk-meets}
 use Rattle.sheet.specs.declared.Task.{Task}
-use Rattle.sheet.specs.declared.Sheet.{Sheet}
+use Rattle.sheet.specs.declared.TaskSet.{TaskSet}
 use Rattle.sheet.proofs.Task as T
-use Rattle.sheet.proofs.Sheet as S
-use Rattle.sheet.proofs.Sheet.Laws as S′
+use Rattle.sheet.proofs.TaskSet as S
+use Rattle.sheet.proofs.TaskSet.Laws as S′
 use Rattle.lists.specs.Lists.{gathered-of}
-use Rattle.lists.proofs.Records.{Value, sheet-val, sheet-tells, sheet-makes, sheet-typed}
+use Rattle.lists.proofs.Records.{Value, set-val, set-tells, set-makes, set-typed}
 use Rattle.lists.proofs.Walk.{calls-told}
 
 -- E are the numbers, ε their type in MIR; R is what is answered
@@ -90,7 +90,7 @@ module _ (E : RattleType) (ε : Ty) (R : Value) where
   stayed = (stay-dropped (plain (λ _. u32)) yes, (stay-dropped (shrSliceOf (0 ∷ []) tt (plain (λ _. T.the-row))) yes, (gave-slice (1 ∷ []) tt (plain (λ _. E)), tt)))
 
   -- what is said of the list, and what of the set
-  module _ (said : ℕ → List Task → List (E .Denot) → R .row .Denot) (left : ℕ → List Task → List (E .Denot) → List (E .Denot)) (said-of : Sheet → List (E .Denot) → R .row .Denot) (left-of : Sheet → List (E .Denot) → List (E .Denot))
+  module _ (said : ℕ → List Task → List (E .Denot) → R .row .Denot) (left : ℕ → List Task → List (E .Denot) → List (E .Denot)) (said-of : TaskSet → List (E .Denot) → R .row .Denot) (left-of : TaskSet → List (E .Denot) → List (E .Denot))
       (said-is : (policy : ℕ) (list : List Task) (place : List (E .Denot)) → said-of (gathered-of policy list) place ≡ said policy list place)
       (left-is : (policy : ℕ) (list : List Task) (place : List (E .Denot)) → left-of (gathered-of policy list) place ≡ left policy list place) where
     abbrev pub taken-clauses : {M : Type 1} (𝓤 : URA M) → Clauses 𝓤 taken
@@ -126,7 +126,7 @@ module _ (E : RattleType) (ε : Ty) (R : Value) where
       Post = walkOf 𝓤 H A taken stayed (taken-clauses 𝓤) .post bound
 
       -- the set, and what is said of it
-      abbrev d : Sheet
+      abbrev d : TaskSet
       d = gathered-of policy (x .now)
 
       abbrev w : R .row .Denot
@@ -154,15 +154,15 @@ module _ (E : RattleType) (ε : Ty) (R : Value) where
           use1 W (raw (alive 𝓤 H A (gathers .signature) (κ, tt) (q, tt))) (id⊢ 𝓤 _) $ move ! (0 ∷ 2 ∷ []) $
           -- [the list's token; what policy and list own; the place's token; what place owns; _6; …]
           calls-told ! (fmOf 𝓤 H (W .laws) 𝓣) gathers (gathers-clauses 𝓤) known-gathered ((κ, tt), (q, tt), tt, (policy, (x, tt)), (vint w32 policy ∷ [], (s ∷ [], tt))) tt (id⊢ 𝓤 _)
-          (λ r ws. r ≡ d) (λ r ws. id⊢ 𝓤 _) d (λ r ws e. e) sheet-val sheet-tells (and-then ! (load ! (from ! (stop !)) (look ! 13 refl)) (and-then ! (load ! (from ! (stop !)) (look ! 11 refl)) (no-more !))) (λ _ _ is-d.
-          land ! (from ! (stop !)) (init ! 8 refl (sheet-typed 𝓤 H A W d is-d .0)) $
+          (λ r ws. r ≡ d) (λ r ws. id⊢ 𝓤 _) d (λ r ws e. e) set-val set-tells (and-then ! (load ! (from ! (stop !)) (look ! 13 refl)) (and-then ! (load ! (from ! (stop !)) (look ! 11 refl)) (no-more !))) (λ _ _ is-d.
+          land ! (from ! (stop !)) (init ! 8 refl (set-typed 𝓤 H A W d is-d .0)) $
           assigns ! (addr ! (from ! (fld ! refl (hop ! (look-in ! 10 (sub ! 0 refl (whole !))) (stop !))))) (from ! (stop !)) (init ! 6 refl (tt, tt)) $
           assigns ! (agg ! (and-then ! (load ! (from ! (stop !)) (look ! 6 refl)) (and-then ! (load ! (from ! (fld ! refl (stop !))) (look-in ! 10 (sub ! 1 refl (whole !)))) (no-more !)))) (from ! (stop !)) (init ! 4 refl (tt, (tt, (record { fits = room′ .0 }, tt)))) $
           -- [the list's token; true; the place's token; what place owns; _6; …]
-          use1 W (‵ (flft κ q) ⊛ ‵ ftrue) (id⊢ 𝓤 _) $ move ! (3 ∷ []) $ nothing ! $ move ! (1 ∷ 0 ∷ []) $ fjoin ! $ owned ! S.the-row (Is S.the-row) (sheet-makes 𝓤 H A) d (sheet-val d ∷ []) is-d $ fjoin ! $
+          use1 W (‵ (flft κ q) ⊛ ‵ ftrue) (id⊢ 𝓤 _) $ move ! (3 ∷ []) $ nothing ! $ move ! (1 ∷ 0 ∷ []) $ fjoin ! $ owned ! S.the-row (Is S.the-row) (set-makes 𝓤 H A) d (set-val d ∷ []) is-d $ fjoin ! $
           move ! (3 ∷ 0 ∷ []) $ use1 W (raw (alive 𝓤 H A (handed .signature) (κ′, tt) (q′, tt))) (id⊢ 𝓤 _) $
           -- [the place's token; what the set and place own; the list's token; true; _6; …]
-          calls-told ! (fmOf 𝓤 H (W .laws) 𝓣) handed (handed-clauses 𝓤) known-set ((κ′, tt), (q′, tt), tt, (d, (y, tt)), (sheet-val d ∷ [], (s′ ∷ [], tt))) tt (id⊢ 𝓤 _)
+          calls-told ! (fmOf 𝓤 H (W .laws) 𝓣) handed (handed-clauses 𝓤) known-set ((κ′, tt), (q′, tt), tt, (d, (y, tt)), (set-val d ∷ [], (s′ ∷ [], tt))) tt (id⊢ 𝓤 _)
           (λ r ws. (r ≡ w) × (ws .1 .0 ≡ left-of d (y .now))) (λ r ws. id⊢ 𝓤 _) w (λ r ws e. e .0) (R .val) (R .tells)
           (and-then ! (load ! (from ! (stop !)) (look ! 7 refl)) (and-then ! (load ! (from ! (stop !)) (look ! 3 refl)) (no-more !))) (λ ws e is.
           land ! (from ! (stop !)) (init ! 16 refl (R .typed 𝓤 H A W w is)) $

@@ -14,7 +14,7 @@ use lib.Seq.{append-snoc, drop-cons, set-at, take-suc, take-all, take-length, le
 use Rattle.sheet.specs.Constants.{most-tasks}
 use Rattle.sheet.specs.Tasks.{blank-record, records-of}
 use Rattle.sheet.specs.declared.Task.{Task}
-use Rattle.sheet.specs.declared.Sheet.{Sheet}
+use Rattle.sheet.specs.declared.TaskSet.{TaskSet}
 use Rattle.sheet.specs.declared.Answer.{Answer}
 use Rattle.sheet.specs.declared.Answer.the-variants.{Admitted, Refused}
 use Rattle.sheet.specs.declared.Reading.{Reading}
@@ -64,7 +64,7 @@ module _ (records list : List Task) where
 
 -- ---- how many records of a list are filled
 
-module _ (s : Sheet) (n : ℕ) where
+module _ (s : TaskSet) (n : ℕ) where
   pub over-most : most-tasks < s .«task_count» → fits s n ≡ false
   unfolding fits
   over-most h = ap (λ (b : Bool). b && leb (s .«task_count») n) (lt-leb (s .«task_count») most-tasks h)
@@ -88,7 +88,7 @@ module _ (s : Sheet) (n : ℕ) where
 -- ---- a list gathered record by record
 
 -- with i of its records in the set
-pub part : ℕ → List Task → ℕ → Sheet
+pub part : ℕ → List Task → ℕ → TaskSet
 part policy list i =
     record {
       policy = policy;
@@ -104,18 +104,18 @@ module _ (policy : ℕ) (list : List Task) where
   pub part-more : (i : ℕ) (d : Task) → i < length list → i < most-tasks → with-record (part policy list i) i (getD list i d) ≡ part policy list (i + 1)
   unfolding with-record part
   part-more i d h l =
-      ap (λ (ts : List Task). let s : Sheet = record { policy = policy; «task_count» = min (length list) (suc most-tasks); tasks = ts } in s)
+      ap (λ (ts : List Task). let s : TaskSet = record { policy = policy; «task_count» = min (length list) (suc most-tasks); tasks = ts } in s)
       (laid-more list (replicate most-tasks blank-record) i d h l)
 
   pub part-all : part policy list (min (length list) most-tasks) ≡ gathered-of policy list
   unfolding part gathered-of
   part-all =
-      ap (λ (ts : List Task). let s : Sheet = record { policy = policy; «task_count» = min (length list) (suc most-tasks); tasks = ts } in s)
+      ap (λ (ts : List Task). let s : TaskSet = record { policy = policy; «task_count» = min (length list) (suc most-tasks); tasks = ts } in s)
       (laid-most list (replicate most-tasks blank-record) most-tasks)
 
 -- ---- a set scattered record by record
 
-module _ (s : Sheet) where
+module _ (s : TaskSet) where
   fill-by : (b : Bool) (k : ℕ) → (b ≡ true → s .«task_count» ≤ k) → to-fill-by b s ≤ k
   unfolding to-fill-by
   fill-by true k h = h refl
@@ -150,13 +150,13 @@ module _ (s : Sheet) where
 module _ (r : Reading) (n : ℕ) where
   pub reading-refused : (why : Refusal) → r .answer ≡ Refused why → TurnedAway why ≡ answer-to r n
   unfolding answer-to answer-by
-  reading-refused why e = ap (λ (a : Answer). answer-by a (ltb n (r .sheet .«task_count»)) (r .sheet)) (sym e)
+  reading-refused why e = ap (λ (a : Answer). answer-by a (ltb n (r .set .«task_count»)) (r .set)) (sym e)
 
   module _ (e : r .answer ≡ Admitted) where
-    pub list-short : n < r .sheet .«task_count» → TurnedAway Room ≡ answer-to r n
+    pub list-short : n < r .set .«task_count» → TurnedAway Room ≡ answer-to r n
     unfolding answer-to answer-by
-    list-short h = sym (ap₂ (λ (a : Answer) (b : Bool). answer-by a b (r .sheet)) e (lt-ltb n (r .sheet .«task_count») h))
+    list-short h = sym (ap₂ (λ (a : Answer) (b : Bool). answer-by a b (r .set)) e (lt-ltb n (r .set .«task_count») h))
 
-    pub list-long : r .sheet .«task_count» ≤ n → Set (r .sheet .policy) (r .sheet .«task_count») ≡ answer-to r n
+    pub list-long : r .set .«task_count» ≤ n → Set (r .set .policy) (r .set .«task_count») ≡ answer-to r n
     unfolding answer-to answer-by
-    list-long h = sym (ap₂ (λ (a : Answer) (b : Bool). answer-by a b (r .sheet)) e (le-ltb n (r .sheet .«task_count») h))
+    list-long h = sym (ap₂ (λ (a : Answer) (b : Bool). answer-by a b (r .set)) e (le-ltb n (r .set .«task_count») h))

@@ -15,7 +15,7 @@ use denote.Enum.Laws as EL
 use denote.Struct.Laws as LL
 use Rattle.sheet.specs.Constants.{most-tasks}
 use Rattle.sheet.specs.declared.Task.{Task}
-use Rattle.sheet.specs.declared.Sheet.{Sheet}
+use Rattle.sheet.specs.declared.TaskSet.{TaskSet}
 use Rattle.sheet.specs.declared.Reading.{Reading}
 use Rattle.sheet.specs.declared.Written.{Written}
 use Rattle.analysis.specs.declared.Outcome.{Outcome}
@@ -30,8 +30,8 @@ use Rattle.sheet.proofs.Written as Wr
 use Rattle.sheet.proofs.Written.Laws as Wr′
 use Rattle.sheet.proofs.Task as Tk
 use Rattle.sheet.proofs.Task.Laws as Tk′
-use Rattle.sheet.proofs.Sheet as S
-use Rattle.sheet.proofs.Sheet.Laws as S′
+use Rattle.sheet.proofs.TaskSet as S
+use Rattle.sheet.proofs.TaskSet.Laws as S′
 
 -- a type of values, as a call's result has it
 pub record Value : Type 2 where
@@ -45,21 +45,21 @@ pub record Value : Type 2 where
 abbrev pub task-val : Task → Val
 task-val = LL.val Tk.the-type Tk′.the-laws
 
-abbrev pub sheet-val : Sheet → Val
-sheet-val = LL.val S.the-type S′.the-laws
+abbrev pub set-val : TaskSet → Val
+set-val = LL.val S.the-type S′.the-laws
 
 -- a value of the type, at its machine value
 abbrev pub IsTask : Task → Type 0
 IsTask t = Is Tk.the-row t (task-val t ∷ [])
 
-abbrev pub IsSheet : Sheet → Type 0
-IsSheet s = Is S.the-row s (sheet-val s ∷ [])
+abbrev pub IsSet : TaskSet → Type 0
+IsSet s = Is S.the-row s (set-val s ∷ [])
 
 pub task-tells : Tells Tk.the-row (Is Tk.the-row) (λ t. task-val t ∷ [])
 task-tells = LL.tells Tk.the-type Tk′.the-laws
 
-pub sheet-tells : Tells S.the-row (Is S.the-row) (λ s. sheet-val s ∷ [])
-sheet-tells = LL.tells S.the-type S′.the-laws
+pub set-tells : Tells S.the-row (Is S.the-row) (λ s. set-val s ∷ [])
+set-tells = LL.tells S.the-type S′.the-laws
 
 abbrev pub reading-val : Reading → Val
 reading-val = LL.val Rd.the-type Rd′.the-laws
@@ -85,15 +85,15 @@ written-val = EL.val Wr.the-type Wr′.the-laws
 pub written-tells : Tells Wr.the-row (Is Wr.the-row) (λ w. written-val w ∷ [])
 written-tells = EL.tells Wr.the-type Wr′.the-laws
 
-pub tasks-length : (s : Sheet) → IsSheet s → length (s .tasks) ≡ most-tasks
+pub tasks-length : (s : TaskSet) → IsSet s → length (s .tasks) ≡ most-tasks
 tasks-length s is = sym (length-map (s .tasks) (Tk.the-field .into)) ∙ LL.owed S.the-type S′.the-laws s _ is .1 .1 .0 .1 .0 .1
 
 module _ {M : Type 1} (𝓤 : URA M) (H : Heap 𝓤) (A : Atoms 𝓤) where
   pub task-makes : Makes 𝓤 H A Tk.the-row (Is Tk.the-row)
   task-makes = LL.makes Tk.the-type Tk′.the-plain 𝓤 H A
 
-  pub sheet-makes : Makes 𝓤 H A S.the-row (Is S.the-row)
-  sheet-makes = LL.makes S.the-type S′.the-plain 𝓤 H A
+  pub set-makes : Makes 𝓤 H A S.the-row (Is S.the-row)
+  set-makes = LL.makes S.the-type S′.the-plain 𝓤 H A
 
   pub reading-makes : Makes 𝓤 H A Rd.the-row (Is Rd.the-row)
   reading-makes = LL.makes Rd.the-type Rd′.the-plain 𝓤 H A
@@ -123,8 +123,8 @@ module _ {M : Type 1} (𝓤 : URA M) (H : Heap 𝓤) (A : Atoms 𝓤) where
     pub task-typed : (t : Task) → IsTask t → Typed (Tk.the-row .mir) (task-val t ∷ [])
     task-typed t is = LL.lawful Tk.the-type Tk′.the-laws 𝓤 H A W .typed t _ is
 
-    pub sheet-typed : (s : Sheet) → IsSheet s → Typed (S.the-row .mir) (sheet-val s ∷ [])
-    sheet-typed s is = LL.lawful S.the-type S′.the-laws 𝓤 H A W .typed s _ is
+    pub set-typed : (s : TaskSet) → IsSet s → Typed (S.the-row .mir) (set-val s ∷ [])
+    set-typed s is = LL.lawful S.the-type S′.the-laws 𝓤 H A W .typed s _ is
 
     pub task-copy : Copy 𝓤 H A Tk.the-row
     task-copy = LL.copy Tk.the-type Tk′.the-copy 𝓤 H A W

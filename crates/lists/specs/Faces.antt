@@ -4,12 +4,14 @@ use Prim.Native.Nat.{ℕ}
 use lib.Dec.{ltb}
 use lib.ListN.{length, drop}
 use Rattle.sheet.specs.Tasks.{task-in, record-of}
-use Rattle.sheet.specs.Admission.{Check, _⇒_, outcome, list-checks}
+use Rattle.lent.specs.Checks.{Check, _⇒_}
+use Rattle.sheet.specs.Admission.{decided, list-checks}
 use Rattle.sheet.specs.Reading.{sheet-checks, policy-of, tasks-of}
 use Rattle.sheet.specs.Writing.{sheet-of}
 use Rattle.sheet.specs.declared.Task.{Task}
 use Rattle.sheet.specs.declared.Answer.{Answer}
 use Rattle.sheet.specs.declared.Answer.the-variants.{Admitted, Refused}
+use Rattle.sheet.specs.declared.Refusal.{Refusal}
 use Rattle.sheet.specs.declared.Refusal.the-variants.{Room}
 use Rattle.sheet.specs.declared.Written.{Written}
 use Rattle.sheet.specs.declared.Written.the-variants.{Bytes, TurnedAway}
@@ -24,7 +26,7 @@ use Rattle.lists.specs.Lists.{laid}
 
 -- "Order for a sheet: .. Last 12." "Room: .. n records for reading into a list"
 unfoldable pub reading-answer : List ℕ → ℕ → Answer
-reading-answer sheet room = outcome (sheet-checks sheet ++ (ltb room (length (tasks-of sheet)) ⇒ Room) ∷ [])
+reading-answer sheet room = decided (sheet-checks sheet ++ (ltb room (length (tasks-of sheet)) ⇒ Room) ∷ [])
 
 -- "the reader the policy and task count"
 unfoldable pub list-read-by : Answer → List ℕ → ListRead
@@ -49,8 +51,8 @@ unfoldable pub list-sheet : ℕ → List Task → List ℕ
 list-sheet policy list = sheet-of policy (map task-in list)
 
 -- "Order for a list: 4, 6, 7 task by task, then task by task 9, 10, 11, then 12."
-unfoldable pub list-answer : ℕ → List Task → Check → Answer
-list-answer policy list room = outcome (list-checks policy (length list) list ++ room ∷ [])
+unfoldable pub list-answer : ℕ → List Task → Check Refusal → Answer
+list-answer policy list room = decided (list-checks policy (length list) list ++ room ∷ [])
 
 -- "Room: .. the sheet's whole length for writing."
 unfoldable pub writing-answer : ℕ → List Task → ℕ → Answer

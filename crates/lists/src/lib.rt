@@ -15,6 +15,7 @@ use sheet::Reading;
 use sheet::Refusal;
 use sheet::Sheet;
 use sheet::Task;
+use sheet::TaskSet;
 use sheet::Written;
 
 // The count of a list of n records: 17 for all that are too long.
@@ -29,10 +30,10 @@ fn counted(n: usize) -> u32
 }
 
 // A set for a list of n records, with none of them in it yet.
-fn opened(policy: u32, n: usize) -> Sheet
+fn opened(policy: u32, n: usize) -> TaskSet
     ensures { λ r. ⌜ r ≡ opened-of policy n ⌝ }
 {
-    Sheet {
+    TaskSet {
         policy: policy,
         task_count: counted(n),
         tasks: [Task::blank(); 16],
@@ -50,17 +51,17 @@ fn to_copy(n: usize) -> usize
     most
 }
 
-fn with_record(sheet: Sheet, i: usize, task: Task) -> Sheet
+fn with_record(set: TaskSet, i: usize, task: Task) -> TaskSet
     requires { ⌜ i < 16 ⌝ }
-    ensures { λ r. ⌜ r ≡ with-record sheet i task ⌝ }
+    ensures { λ r. ⌜ r ≡ with-record set i task ⌝ }
 {
-    let mut set = sheet;
-    set.tasks[i] = task;
-    set
+    let mut filled = set;
+    filled.tasks[i] = task;
+    filled
 }
 
 // A lent list as a set by value.
-pub fn gathered(policy: u32, list: &[Task]) -> Sheet
+pub fn gathered(policy: u32, list: &[Task]) -> TaskSet
     ensures { λ r. ⌜ r ≡ gathered-of policy (now (list .entry)) ⌝ }
 {
     let n = list.len();
@@ -75,7 +76,7 @@ pub fn gathered(policy: u32, list: &[Task]) -> Sheet
 }
 
 // How many records of a list of n a set fills.
-fn to_fill(set: Sheet, n: usize) -> usize
+fn to_fill(set: TaskSet, n: usize) -> usize
     ensures { λ r. ⌜ r ≡ to-fill set n ⌝ }
 {
     let count = set.task_count;
@@ -89,7 +90,7 @@ fn to_fill(set: Sheet, n: usize) -> usize
     0
 }
 
-fn record_at(set: Sheet, i: usize) -> Task
+fn record_at(set: TaskSet, i: usize) -> Task
     requires { ⌜ i < 16 ⌝ }
     ensures { λ r. ⌜ r ≡ getD (set .tasks) i no-record ⌝ }
 {
@@ -98,7 +99,7 @@ fn record_at(set: Sheet, i: usize) -> Task
 }
 
 // The records of a set into a lent list, which keeps the rest of its content.
-pub fn scattered(set: Sheet, list: &mut [Task])
+pub fn scattered(set: TaskSet, list: &mut [Task])
     ensures { λ _. ⌜ now (list .exit) ≡ scattered-of set (now (list .entry)) ⌝ }
 {
     let count = to_fill(set, list.len());
@@ -115,10 +116,10 @@ pub enum ListRead {
     TurnedAway(Refusal),
 }
 
-fn set_in(reading: Reading) -> Sheet
-    ensures { λ r. ⌜ r ≡ reading .sheet ⌝ }
+fn set_in(reading: Reading) -> TaskSet
+    ensures { λ r. ⌜ r ≡ reading .set ⌝ }
 {
-    let set = reading.sheet;
+    let set = reading.set;
     set
 }
 
@@ -127,7 +128,7 @@ fn answered(reading: Reading, n: usize) -> ListRead
     ensures { λ r. ⌜ r ≡ answer-to reading n ⌝ }
 {
     let answer = reading.answer;
-    let set = reading.sheet;
+    let set = reading.set;
     match answer {
         Answer::Refused(why) => ListRead::TurnedAway(why),
         Answer::Admitted => {

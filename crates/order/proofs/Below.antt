@@ -14,7 +14,7 @@ use Rattle.theory.proofs.Blocking.{IsBlocker, blocker-when, no-blocker-when, la
 use Rattle.sheet.specs.Tasks.{task-in}
 use Rattle.sheet.specs.declared.Task.{Task as Record}
 use Rattle.order.specs.Below.{FirstLargest}
-use Rattle.order.specs.Ordered.{tasks-of, blocking-at, blocker-at}
+use Rattle.order.specs.Ordered.{tasks-in-order, blocking-at, blocker-at}
 use Rattle.order.specs.declared.Ordered.{Ordered}
 use Rattle.order.specs.declared.Blocker.the-variants.{At, Nobody}
 use Rattle.order.proofs.Records.{take-min, task-there}
@@ -102,8 +102,8 @@ module _ (tasks : List Record) (n : ℕ) where
       }
 
 -- the tasks of an ordered set are the records in use
-pub in-use : (o : Ordered) (k n : ℕ) → n ≡ min (o .count) k → k ≡ 16 → length (o .tasks) ≡ 16 → tasks-of o ≡ map task-in (take n (o .tasks))
-unfolding tasks-of
+pub in-use : (o : Ordered) (k n : ℕ) → n ≡ min (o .count) k → k ≡ 16 → length (o .tasks) ≡ 16 → tasks-in-order o ≡ map task-in (take n (o .tasks))
+unfolding tasks-in-order
 in-use o k n e q w =
     ap (map task-in) (sym (take-min (o .count) (o .tasks)))
     ∙ ap (λ i. map task-in (take i (o .tasks))) (sym (e ∙ ap (min (o .count)) (q ∙ sym w)))
@@ -112,7 +112,7 @@ module _ (o : Ordered) (k n p : ℕ) (e : n ≡ min (o .count) k) (q : k ≡ 16)
   ts : List Task
   ts = map task-in (take n (o .tasks))
 
-  same : tasks-of o ≡ ts
+  same : tasks-in-order o ≡ ts
   unfolding ts
   same = in-use o k n e q w
 

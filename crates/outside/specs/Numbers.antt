@@ -4,6 +4,6 @@ use Rattle.bits.specs.declared.Taken.{Taken}
 use Rattle.bits.specs.declared.Taken.the-variants.{Value, Outside}
 
 -- the value itself; where there is no field, a number that no field of 32 bits holds
-abbrev pub number-of : Taken → ℕ
-number-of (Value v) = v
-number-of Outside = 2 ^ 32
+abbrev pub number-taken : Taken → ℕ
+number-taken (Value v) = v
+number-taken Outside = 2 ^ 32

@@ -4,11 +4,11 @@ ghost use lib.Dec.{leb};
 ghost use lib.ListN.{length};
 ghost use Rattle.bits.specs.Faces.{taken, fits, stored};
 ghost use Rattle.check_word.specs.Division.{check-word, sealed, with-seal};
-ghost use Rattle.outside.specs.Numbers.{number-of};
+ghost use Rattle.outside.specs.Numbers.{number-taken};
 use bits::Taken;
 
 fn number(t: Taken) -> u64
-    ensures { λ r. ⌜ r ≡ number-of t ⌝ }
+    ensures { λ r. ⌜ r ≡ number-taken t ⌝ }
 {
     match t {
         Taken::Value(v) => v as u64,
@@ -18,7 +18,7 @@ fn number(t: Taken) -> u64
 
 #[no_mangle]
 pub extern "C" fn burrbeech_take_field(bytes: &[u8], at: usize, width: usize) -> u64
-    ensures { λ r. ⌜ r ≡ number-of (taken (now (bytes .entry)) at width) ⌝ }
+    ensures { λ r. ⌜ r ≡ number-taken (taken (now (bytes .entry)) at width) ⌝ }
 {
     number(bits::take_field(bytes, at, width))
 }

@@ -9,9 +9,10 @@ use lib.Dec.{ltb, eqb, lit<}
 use lib.ListN.{length}
 use Rattle.bits.specs.Packed.{value, field}
 use Rattle.sheet.specs.Fields.{total, header-widths}
-use Rattle.sheet.specs.Tasks.{record-of, sheet-with}
+use Rattle.sheet.specs.Tasks.{record-of, set-with}
 use Rattle.sheet.specs.Layout.{header-in, records-in, frame-count-in, record-width, task-at-start, tasks-in}
-use Rattle.sheet.specs.Admission.{Check, _⇒_, outcome, policy-check, task-count-check, frame-count-check}
+use Rattle.lent.specs.Checks.{Check, _⇒_}
+use Rattle.sheet.specs.Admission.{decided, policy-check, task-count-check, frame-count-check}
 use Rattle.sheet.specs.Reading.{layout-checks}
 use Rattle.sheet.proofs.Checks.{applies, passed-over}
 use Rattle.sheet.specs.declared.Answer.{Answer}
@@ -42,13 +43,13 @@ unfolding record-width total
 record-width-is bs = ap (λ (n : ℕ). 64 + n) (total-equal (frame-count-in bs) 20)
 
 module _ (i at : ℕ) (bs : List Bool) where
-  from-frames : List Check
+  from-frames : List (Check Refusal)
   from-frames = (ltb (length bs) (record-width bs) ⇒ Records) ∷ []
 
-  from-frame-count : List Check
+  from-frame-count : List (Check Refusal)
   from-frame-count = frame-count-check i (frame-count-in bs) ∷ from-frames
 
-  not-found-by : (why : Refusal) → outcome (record-checks i bs) ≡ Refused why → nothing-found why ≡ found-at i at bs
+  not-found-by : (why : Refusal) → decided (record-checks i bs) ≡ Refused why → nothing-found why ≡ found-at i at bs
   unfolding found-at found-by
   not-found-by why e = sym (ap (λ (a : Answer). found-by a at bs) e)
 
@@ -57,7 +58,7 @@ module _ (i at : ℕ) (bs : List Bool) where
   fixed-bits-missing h = not-found-by Records (applies _ Records _ (lt-ltb (length bs) 64 h))
 
   module _ (h : 64 ≤ length bs) where
-    to-frame-count : outcome (record-checks i bs) ≡ outcome from-frame-count
+    to-frame-count : decided (record-checks i bs) ≡ decided from-frame-count
     unfolding record-checks total from-frame-count from-frames
     to-frame-count = passed-over _ Records _ (le-ltb (length bs) 64 h)
 
@@ -67,7 +68,7 @@ module _ (i at : ℕ) (bs : List Bool) where
       frame-count-wrong f = not-found-by (FrameCount i) (to-frame-count ∙ applies _ (FrameCount i) _ (test-same n _ 8 true e f))
 
       module _ (f : (eqb n 0 || ltb 8 n) ≡ false) where
-        to-frames : outcome (record-checks i bs) ≡ outcome from-frames
+        to-frames : decided (record-checks i bs) ≡ decided from-frames
         unfolding frame-count-check from-frame-count
         to-frames = to-frame-count ∙ passed-over _ (FrameCount i) _ (test-same n _ 8 false e f)
 
@@ -104,19 +105,19 @@ module _ (bs : List Bool) where
   unfolding header-in total
   spare-is n e = e ∙ sym (number-in header-widths bs 3 (lit< tt))
 
-  from-records : List Check
+  from-records : List (Check Refusal)
   from-records = layout-checks 0 (header-in bs .task-count) (records-in bs)
 
-  from-task-count : List Check
+  from-task-count : List (Check Refusal)
   from-task-count = task-count-check (header-in bs .task-count) ∷ from-records
 
-  from-spare : List Check
+  from-spare : List (Check Refusal)
   from-spare = (not (eqb (header-in bs .spare) 0) ⇒ BitSet) ∷ from-task-count
 
-  from-policy : List Check
+  from-policy : List (Check Refusal)
   from-policy = policy-check (header-in bs .policy) ∷ from-spare
 
-  body-refused : (why : Refusal) → outcome (body-checks bs) ≡ Refused why → turned-away why ≡ body-reading bs
+  body-refused : (why : Refusal) → decided (body-checks bs) ≡ Refused why → turned-away why ≡ body-reading bs
   unfolding body-reading reading-of
   body-refused why e = sym (ap (λ (a : Answer). reading-of a (set-in bs)) e)
 
@@ -125,7 +126,7 @@ module _ (bs : List Bool) where
   version-wrong f = body-refused Version (applies _ Version _ (ap not (ne-eqb _ 1 f)))
 
   module _ (v : header-in bs .version ≡ 1) where
-    to-policy : outcome (body-checks bs) ≡ outcome from-policy
+    to-policy : decided (body-checks bs) ≡ decided from-policy
     unfolding body-checks from-policy from-spare from-task-count from-records
     to-policy = passed-over _ Version _ (ap not (eq-eqb _ 1 v))
 
@@ -134,7 +135,7 @@ module _ (bs : List Bool) where
     policy-wrong h = body-refused Policy (to-policy ∙ applies _ Policy _ (lt-ltb 2 _ h))
 
     module _ (p : header-in bs .policy ≤ 2) where
-      to-spare : outcome (body-checks bs) ≡ outcome from-spare
+      to-spare : decided (body-checks bs) ≡ decided from-spare
       unfolding from-policy policy-check
       to-spare = to-policy ∙ passed-over _ Policy _ (le-ltb 2 _ p)
 
@@ -143,7 +144,7 @@ module _ (bs : List Bool) where
       spare-set f = body-refused BitSet (to-spare ∙ applies _ BitSet _ (ap not (ne-eqb _ 0 f)))
 
       module _ (z : header-in bs .spare ≡ 0) (n : ℕ) (e : n ≡ header-in bs .task-count) where
-        to-task-count : outcome (body-checks bs) ≡ outcome from-task-count
+        to-task-count : decided (body-checks bs) ≡ decided from-task-count
         unfolding from-spare
         to-task-count = to-spare ∙ passed-over _ BitSet _ (ap not (eq-eqb _ 0 z))
 
@@ -154,5 +155,5 @@ module _ (bs : List Bool) where
         pub header-right : (eqb n 0 || ltb 16 n) ≡ false → (policy : ℕ) → policy ≡ header-in bs .policy → records-reading policy n (records-in bs) ≡ body-reading bs
         unfolding from-task-count from-records task-count-check records-reading body-reading set-in
         header-right f policy ep =
-            ap₂ (λ (x m : ℕ). reading-of (outcome (layout-checks 0 m (records-in bs))) (sheet-with x (tasks-in m (records-in bs)))) ep e
+            ap₂ (λ (x m : ℕ). reading-of (decided (layout-checks 0 m (records-in bs))) (set-with x (tasks-in m (records-in bs)))) ep e
             ∙ ap (λ (a : Answer). reading-of a (set-in bs)) (sym (to-task-count ∙ passed-over _ TaskCount _ (test-same n _ 16 false e f)))

@@ -11,7 +11,7 @@ use lib.Pow.{pow-pos}
 use lib.Seq.{take-all}
 use Rattle.bits.specs.Packed.{value, bits-of, field}
 use Rattle.bits.proofs.Laws.{length-bits}
-use Rattle.sheet.specs.Admission.{outcome}
+use Rattle.sheet.specs.Admission.{decided}
 use Rattle.sheet.specs.Reading.{some-set, layout-checks}
 use Rattle.sheet.proofs.Checks.{applies, passed-over}
 use Rattle.sheet.specs.declared.Answer.the-variants.{Admitted, Refused}
@@ -34,23 +34,23 @@ set-by-value (false ∷ bs) =
     let same : value bs ≡ 0 * 2 ^ length bs + value bs = omega arith in
     set-by-value bs ∙ ap (λ (n : ℕ). not (eqb n 0)) same
 
-pub nothing-applies : outcome [] ≡ Admitted
-unfolding outcome
+pub nothing-applies : decided [] ≡ Admitted
+unfolding decided
 nothing-applies = refl
 
 module _ (i : ℕ) (bs : List Bool) where
-  pub bits-left : 8 ≤ length bs → Refused Records ≡ outcome (layout-checks i 0 bs)
+  pub bits-left : 8 ≤ length bs → Refused Records ≡ decided (layout-checks i 0 bs)
   unfolding layout-checks
   bits-left h = sym (applies (leb 8 (length bs)) Records _ (le-leb 8 (length bs) h))
 
   module _ (h : length bs < 8) where
-    pub fill-set : (value bs ≡ 0 → ⊥) → Refused BitSet ≡ outcome (layout-checks i 0 bs)
+    pub fill-set : (value bs ≡ 0 → ⊥) → Refused BitSet ≡ decided (layout-checks i 0 bs)
     unfolding layout-checks
     fill-set f =
         sym (passed-over (leb 8 (length bs)) Records _ (lt-leb 8 (length bs) h)
         ∙ applies (some-set bs) BitSet _ (set-by-value bs ∙ ap not (ne-eqb (value bs) 0 f)))
 
-    pub fill-clear : value bs ≡ 0 → Admitted ≡ outcome (layout-checks i 0 bs)
+    pub fill-clear : value bs ≡ 0 → Admitted ≡ decided (layout-checks i 0 bs)
     unfolding layout-checks
     fill-clear e =
         sym (passed-over (leb 8 (length bs)) Records _ (lt-leb 8 (length bs) h)

@@ -10,16 +10,17 @@ use lib.ListN.{length, drop, set, replicate, length-map}
 use lib.Seq.{drop-drop}
 use Rattle.bits.specs.Packed.{bits-of}
 use Rattle.sheet.specs.Fields.{total}
-use Rattle.sheet.specs.Tasks.{record-of, blank-record, sheet-with}
+use Rattle.sheet.specs.Tasks.{record-of, blank-record, set-with}
 use Rattle.sheet.specs.Layout.{records-in, record-width, task-at-start, tasks-in}
-use Rattle.sheet.specs.Admission.{Check, _⇒_, outcome}
+use Rattle.lent.specs.Checks.{Check, _⇒_}
+use Rattle.sheet.specs.Admission.{decided}
 use Rattle.sheet.specs.Reading.{layout-checks}
 use Rattle.sheet.proofs.Checks.{admitted-first, refused-first}
 use Rattle.sheet.specs.declared.Answer.{Answer}
 use Rattle.sheet.specs.declared.Answer.the-variants.{Admitted, Refused}
 use Rattle.sheet.specs.declared.Reading.{Reading}
 use Rattle.sheet.specs.declared.Refusal.{Refusal}
-use Rattle.sheet.specs.declared.Sheet.{Sheet}
+use Rattle.sheet.specs.declared.TaskSet.{TaskSet}
 use Rattle.sheet.specs.declared.Task.{Task as Record}
 use Rattle.reader.specs.Parts.{turned-away, reading-of, record-checks, nothing-found, found-by, found-at, records-reading}
 use Rattle.reader.specs.declared.Found.{Found}
@@ -68,12 +69,12 @@ recorded-more n bs h =
 
 -- ---- checks that admit
 
-head-admits : (b : Bool) (why : Refusal) (cs : List Check) → outcome ((b ⇒ why) ∷ cs) ≡ Admitted → (b ≡ false) × (outcome cs ≡ Admitted)
-unfolding outcome
+head-admits : (b : Bool) (why : Refusal) (cs : List (Check Refusal)) → decided ((b ⇒ why) ∷ cs) ≡ Admitted → (b ≡ false) × (decided cs ≡ Admitted)
+unfolding decided
 head-admits true why cs e = let z : _≡_ {A = ℕ} 0 1 = cc in let no-way : ⊥ = omega arith in absurd no-way
 head-admits false why cs e = (refl, e)
 
-pub record-fits : (i : ℕ) (bs : List Bool) → outcome (record-checks i bs) ≡ Admitted → record-width bs ≤ length bs
+pub record-fits : (i : ℕ) (bs : List Bool) → decided (record-checks i bs) ≡ Admitted → record-width bs ≤ length bs
 unfolding record-checks
 record-fits i bs e = ltb-false (length bs) (record-width bs) (head-admits _ _ _ (head-admits _ _ _ (head-admits _ _ _ e .1) .1) .0)
 
@@ -89,13 +90,13 @@ pub record Walked (s : List ℕ) (n i at : ℕ) (tasks : List Record) : Type 0 w
   pub place : at ≡ 16 + records-width i (records-in (bits-of s))
   pub inside : at ≤ 8 * length s
   pub held : tasks ≡ recorded i (records-in (bits-of s))
-  pub same : outcome (layout-checks i (n - i) (drop at (bits-of s))) ≡ outcome (layout-checks 0 n (records-in (bits-of s)))
+  pub same : decided (layout-checks i (n - i) (drop at (bits-of s))) ≡ decided (layout-checks 0 n (records-in (bits-of s)))
 
 pub none-walked : (s : List ℕ) (n : ℕ) → 2 ≤ length s → Walked s n 0 16 (replicate 16 blank-record)
 unfolding records-width records-in total recorded tasks-in
 none-walked s n h =
     let e : n - 0 ≡ n = omega arith in
-    record { turn = omega arith; place = refl; inside = omega arith; held = refl; same = ap (λ (m : ℕ). outcome (layout-checks 0 m (drop 16 (bits-of s)))) e }
+    record { turn = omega arith; place = refl; inside = omega arith; held = refl; same = ap (λ (m : ℕ). decided (layout-checks 0 m (drop 16 (bits-of s)))) e }
 
 module _ (s : List ℕ) (n i at : ℕ) (tasks : List Record) (w : Walked s n i at tasks) where
   here : drop (records-width i (records-in (bits-of s))) (records-in (bits-of s)) ≡ drop at (bits-of s)
@@ -103,7 +104,7 @@ module _ (s : List ℕ) (n i at : ℕ) (tasks : List Record) (w : Walked s n i a
   here = drop-drop (records-width i (drop 16 (bits-of s))) 16 (bits-of s) ∙ ap (λ (k : ℕ). drop k (bits-of s)) (sym (w .place))
 
   module _ (h : i < n) (f : Found) (e : f ≡ found-at i at (drop at (bits-of s))) where
-    checks : List Check
+    checks : List (Check Refusal)
     checks = layout-checks (suc i) (n - suc i) (drop (record-width (drop at (bits-of s))) (drop at (bits-of s)))
 
     split : layout-checks i (n - i) (drop at (bits-of s)) ≡ record-checks i (drop at (bits-of s)) ++ checks
@@ -112,18 +113,18 @@ module _ (s : List ℕ) (n i at : ℕ) (tasks : List Record) (w : Walked s n i a
         let m : n - i ≡ suc (n - suc i) = omega arith in
         rw m
 
-    answer-is : f .answer ≡ outcome (record-checks i (drop at (bits-of s)))
+    answer-is : f .answer ≡ decided (record-checks i (drop at (bits-of s)))
     unfolding found-at
     answer-is = ap (λ (x : Found). x .answer) e ∙ found-answer _ at (drop at (bits-of s))
 
     pub walk-ends : (policy : ℕ) (why : Refusal) → f .answer ≡ Refused why → turned-away why ≡ records-reading policy n (records-in (bits-of s))
     unfolding records-reading reading-of
     walk-ends policy why r =
-        sym (ap (λ (a : Answer). reading-of a (sheet-with policy (tasks-in n (records-in (bits-of s)))))
-        (sym (w .same) ∙ ap outcome split ∙ refused-first _ checks why (sym answer-is ∙ r)))
+        sym (ap (λ (a : Answer). reading-of a (set-with policy (tasks-in n (records-in (bits-of s)))))
+        (sym (w .same) ∙ ap decided split ∙ refused-first _ checks why (sym answer-is ∙ r)))
 
     module _ (a : f .answer ≡ Admitted) where
-      admits : outcome (record-checks i (drop at (bits-of s))) ≡ Admitted
+      admits : decided (record-checks i (drop at (bits-of s))) ≡ Admitted
       admits = sym answer-is ∙ a
 
       found : f ≡ found-by Admitted at (drop at (bits-of s))
@@ -148,23 +149,23 @@ module _ (s : List ℕ) (n i at : ℕ) (tasks : List Record) (w : Walked s n i a
             held = rw (w .held, task-is, ← here, add-one i) (recorded-more i (records-in (bits-of s)) (omega arith));
             same =
                 rw (add-one i, next-is, ← drop-drop (record-width (drop at (bits-of s))) at (bits-of s))
-                (sym (admitted-first _ checks admits) ∙ sym (ap outcome split) ∙ w .same);
+                (sym (admitted-first _ checks admits) ∙ sym (ap decided split) ∙ w .same);
           }
 
-  module _ (h : n ≤ i) (a : Answer) (e : a ≡ outcome (layout-checks 0 0 (drop at (bits-of s)))) where
+  module _ (h : n ≤ i) (a : Answer) (e : a ≡ decided (layout-checks 0 0 (drop at (bits-of s)))) where
     at-end : i ≡ n
     at-end = omega (arith, w .turn)
 
-    last : a ≡ outcome (layout-checks 0 n (records-in (bits-of s)))
+    last : a ≡ decided (layout-checks 0 n (records-in (bits-of s)))
     unfolding layout-checks
     last =
         let none-left : 0 ≡ n - i = omega arith in
-        e ∙ ap (λ (m : ℕ). outcome (layout-checks i m (drop at (bits-of s)))) none-left ∙ w .same
+        e ∙ ap (λ (m : ℕ). decided (layout-checks i m (drop at (bits-of s)))) none-left ∙ w .same
 
     pub fill-refused : (policy : ℕ) (why : Refusal) → a ≡ Refused why → turned-away why ≡ records-reading policy n (records-in (bits-of s))
     unfolding records-reading reading-of
     fill-refused policy why r =
-        ap (λ (x : Answer). reading-of x (sheet-with policy (tasks-in n (records-in (bits-of s))))) (sym r ∙ last)
+        ap (λ (x : Answer). reading-of x (set-with policy (tasks-in n (records-in (bits-of s))))) (sym r ∙ last)
 
     records-are : tasks ≡ map record-of (tasks-in n (records-in (bits-of s))) ++ replicate (16 - length (tasks-in n (records-in (bits-of s)))) blank-record
     unfolding recorded
@@ -173,11 +174,11 @@ module _ (s : List ℕ) (n i at : ℕ) (tasks : List Record) (w : Walked s n i a
         ∙ ap (λ (m : ℕ). recorded m (records-in (bits-of s))) at-end
         ∙ ap (λ (m : ℕ). map record-of (tasks-in n (records-in (bits-of s))) ++ replicate (16 - m) blank-record) (sym (length-tasks n (records-in (bits-of s))))
 
-    sheet-is : (policy : ℕ) → _≡_ {A = Sheet} (record { policy = policy; «task_count» = n; tasks = tasks }) (sheet-with policy (tasks-in n (records-in (bits-of s))))
-    unfolding sheet-with
+    sheet-is : (policy : ℕ) → _≡_ {A = TaskSet} (record { policy = policy; «task_count» = n; tasks = tasks }) (set-with policy (tasks-in n (records-in (bits-of s))))
+    unfolding set-with
     sheet-is policy = λ k. record { policy = policy; «task_count» = sym (length-tasks n (records-in (bits-of s))) k; tasks = records-are k }
 
     pub walk-done : (policy : ℕ) → a ≡ Admitted
-        → _≡_ {A = Reading} (record { answer = Admitted; sheet = record { policy = policy; «task_count» = n; tasks = tasks } }) (records-reading policy n (records-in (bits-of s)))
+        → _≡_ {A = Reading} (record { answer = Admitted; set = record { policy = policy; «task_count» = n; tasks = tasks } }) (records-reading policy n (records-in (bits-of s)))
     unfolding records-reading reading-of
     walk-done policy r = ap₂ reading-of (sym r ∙ last) (sheet-is policy)

@@ -10,25 +10,25 @@ use Rattle.bits.specs.Packed.{bits-of}
 use Rattle.check_word.specs.Division.{body, sealed}
 use Rattle.sheet.specs.Tasks.{task-in, records-of}
 use Rattle.sheet.specs.Layout.{header-in, records-in, tasks-in}
-use Rattle.sheet.specs.Admission.{outcome, task-checks}
+use Rattle.sheet.specs.Admission.{decided, task-checks}
 use Rattle.sheet.specs.Reading.{sheet-checks, policy-of, tasks-of, reading-by, reading}
-use Rattle.sheet.proofs.Checks.{applies, passed-over, and-then, outcome-append}
+use Rattle.sheet.proofs.Checks.{applies, passed-over, and-then, decided-append}
 use Rattle.sheet.proofs.Records.{tasks-with}
 use Rattle.sheet.specs.declared.Answer.{Answer}
 use Rattle.sheet.specs.declared.Answer.the-variants.{Admitted, Refused}
 use Rattle.sheet.specs.declared.Reading.{Reading}
 use Rattle.sheet.specs.declared.Refusal.{Refusal}
 use Rattle.sheet.specs.declared.Refusal.the-variants.{Length, CheckWord}
-use Rattle.sheet.specs.declared.Sheet.{Sheet}
+use Rattle.sheet.specs.declared.TaskSet.{TaskSet}
 use Rattle.reader.specs.Parts.{turned-away, reading-of, body-checks, set-in, body-reading, judged}
 
-answer-of : (a : Answer) (s : Sheet) → reading-of a s .answer ≡ a
+answer-of : (a : Answer) (s : TaskSet) → reading-of a s .answer ≡ a
 unfolding reading-of turned-away
 answer-of Admitted s = refl
 answer-of (Refused why) s = refl
 
 -- the tasks of a set, by the answer to them
-module _ (s : Sheet) (a : Answer) (e : a ≡ outcome (task-checks 0 (map task-in (records-of s)))) where
+module _ (s : TaskSet) (a : Answer) (e : a ≡ decided (task-checks 0 (map task-in (records-of s)))) where
   judged-is : judged s ≡ reading-of a s
   unfolding judged
   judged-is = ap (λ (x : Answer). reading-of x s) (sym e)
@@ -37,7 +37,7 @@ module _ (s : Sheet) (a : Answer) (e : a ≡ outcome (task-checks 0 (map task-in
   unfolding reading-of
   tasks-refused why f = sym (judged-is ∙ ap (λ (x : Answer). reading-of x s) f)
 
-  pub tasks-admitted : a ≡ Admitted → _≡_ {A = Reading} (record { answer = Admitted; sheet = s }) (judged s)
+  pub tasks-admitted : a ≡ Admitted → _≡_ {A = Reading} (record { answer = Admitted; set = s }) (judged s)
   unfolding reading-of
   tasks-admitted f = sym (judged-is ∙ ap (λ (x : Answer). reading-of x s) f)
 
@@ -47,11 +47,11 @@ module _ (s : List ℕ) where
   by-answer Admitted = refl
   by-answer (Refused why) = refl
 
-  reading-is : (a : Answer) → outcome (sheet-checks s) ≡ a → reading-of a (set-in (bits-of (body s))) ≡ reading s
+  reading-is : (a : Answer) → decided (sheet-checks s) ≡ a → reading-of a (set-in (bits-of (body s))) ≡ reading s
   unfolding reading
   reading-is a e = sym (ap (λ (x : Answer). reading-by x s) e ∙ by-answer a)
 
-  sheet-refused : (why : Refusal) → outcome (sheet-checks s) ≡ Refused why → turned-away why ≡ reading s
+  sheet-refused : (why : Refusal) → decided (sheet-checks s) ≡ Refused why → turned-away why ≡ reading s
   unfolding reading-of
   sheet-refused why = reading-is (Refused why)
 
@@ -74,17 +74,17 @@ module _ (s : List ℕ) where
 
       module _ (e : sealed s ≡ true) (r : Reading) (er : r ≡ body-reading (bits-of (body s))) where
         on-body : Answer
-        on-body = outcome (body-checks (bits-of (body s)))
+        on-body = decided (body-checks (bits-of (body s)))
 
         on-tasks : Answer
-        on-tasks = outcome (task-checks 0 (tasks-in (header-in (bits-of (body s)) .task-count) (records-in (bits-of (body s)))))
+        on-tasks = decided (task-checks 0 (tasks-in (header-in (bits-of (body s)) .task-count) (records-in (bits-of (body s)))))
 
-        both : outcome (sheet-checks s) ≡ and-then on-body on-tasks
+        both : decided (sheet-checks s) ≡ and-then on-body on-tasks
         unfolding sheet-checks body-checks on-body on-tasks
         both =
             passed-over _ Length _ size-right
             ∙ passed-over _ CheckWord _ (ap not e)
-            ∙ outcome-append (body-checks (bits-of (body s))) (task-checks 0 (tasks-in (header-in (bits-of (body s)) .task-count) (records-in (bits-of (body s)))))
+            ∙ decided-append (body-checks (bits-of (body s))) (task-checks 0 (tasks-in (header-in (bits-of (body s)) .task-count) (records-in (bits-of (body s)))))
 
         module _ (a : Answer) (ea : r .answer ≡ a) where
           body-answer : on-body ≡ a
@@ -101,11 +101,11 @@ module _ (s : List ℕ) where
             body-is (Refused why) ea ∙ reading-is (Refused why) (both ∙ ap (λ (x : Answer). and-then x on-tasks) (body-answer (Refused why) ea))
 
         -- the set whose tasks are looked at
-        pub tasks-decide : r .answer ≡ Admitted → (q : Reading) → q ≡ judged (r .sheet) → q ≡ reading s
+        pub tasks-decide : r .answer ≡ Admitted → (q : Reading) → q ≡ judged (r .set) → q ≡ reading s
         unfolding on-tasks judged reading-of set-in
         tasks-decide ea q eq =
-            let set = ap (λ (x : Reading). x .sheet) (body-is Admitted ea) in
+            let set = ap (λ (x : Reading). x .set) (body-is Admitted ea) in
             eq
-            ∙ ap (λ (x : Sheet). reading-of (outcome (task-checks 0 (map task-in (records-of x)))) x) set
-            ∙ ap (λ (ts : _). reading-of (outcome (task-checks 0 ts)) (set-in (bits-of (body s)))) (tasks-with _ _)
+            ∙ ap (λ (x : TaskSet). reading-of (decided (task-checks 0 (map task-in (records-of x)))) x) set
+            ∙ ap (λ (ts : _). reading-of (decided (task-checks 0 ts)) (set-in (bits-of (body s)))) (tasks-with _ _)
             ∙ reading-is on-tasks (both ∙ ap (λ (x : Answer). and-then x on-tasks) (body-answer Admitted ea))

@@ -6,29 +6,30 @@ use lib.Dec.{ltb, eqb}
 use lib.ListN.{length}
 use Rattle.sheet.specs.Constants.{the-version}
 use Rattle.sheet.specs.Fields.{total, fixed-widths}
-use Rattle.sheet.specs.Tasks.{task-in, record-of, records-of, blank-record, sheet-with, blank-sheet}
+use Rattle.sheet.specs.Tasks.{task-in, record-of, records-of, blank-record, set-with, blank-set}
 use Rattle.sheet.specs.Layout.{header-in, records-in, frame-count-in, record-width, task-at-start, tasks-in}
-use Rattle.sheet.specs.Admission.{Check, _⇒_, outcome, policy-check, task-count-check, frame-count-check, task-checks}
+use Rattle.lent.specs.Checks.{Check, _⇒_}
+use Rattle.sheet.specs.Admission.{decided, policy-check, task-count-check, frame-count-check, task-checks}
 use Rattle.sheet.specs.Reading.{layout-checks}
 use Rattle.sheet.specs.declared.Answer.{Answer}
 use Rattle.sheet.specs.declared.Answer.the-variants.{Admitted, Refused}
 use Rattle.sheet.specs.declared.Reading.{Reading}
 use Rattle.sheet.specs.declared.Refusal.{Refusal}
 use Rattle.sheet.specs.declared.Refusal.the-variants.{Version, BitSet, Records}
-use Rattle.sheet.specs.declared.Sheet.{Sheet}
+use Rattle.sheet.specs.declared.TaskSet.{TaskSet}
 use Rattle.reader.specs.declared.Found.{Found}
 
 -- a refusal, and beside it a set with no task
 unfoldable pub turned-away : Refusal → Reading
-turned-away why = record { answer = Refused why; sheet = blank-sheet }
+turned-away why = record { answer = Refused why; set = blank-set }
 
 -- a set where it is admitted
-unfoldable pub reading-of : Answer → Sheet → Reading
-reading-of Admitted s = record { answer = Admitted; sheet = s }
+unfoldable pub reading-of : Answer → TaskSet → Reading
+reading-of Admitted s = record { answer = Admitted; set = s }
 reading-of (Refused why) s = turned-away why
 
 -- the checks of one record, that of task i, at the start of the bits
-unfoldable pub record-checks : ℕ → List Bool → List Check
+unfoldable pub record-checks : ℕ → List Bool → List (Check Refusal)
 record-checks i bits =
     (ltb (length bits) (total fixed-widths) ⇒ Records)
     ∷ frame-count-check i (frame-count-in bits)
@@ -44,14 +45,14 @@ found-by (Refused why) at bits = nothing-found why
 
 -- the record at the start of the bits, which themselves start at a bit position
 unfoldable pub found-at : ℕ → ℕ → List Bool → Found
-found-at i at bits = found-by (outcome (record-checks i bits)) at bits
+found-at i at bits = found-by (decided (record-checks i bits)) at bits
 
 -- a policy and the n tasks whose records stand at the start of the bits
 unfoldable pub records-reading : ℕ → ℕ → List Bool → Reading
-records-reading policy n bits = reading-of (outcome (layout-checks 0 n bits)) (sheet-with policy (tasks-in n bits))
+records-reading policy n bits = reading-of (decided (layout-checks 0 n bits)) (set-with policy (tasks-in n bits))
 
 -- "3, 4, 5 for header bits, 6. Then task by task .."
-unfoldable pub body-checks : List Bool → List Check
+unfoldable pub body-checks : List Bool → List (Check Refusal)
 body-checks bits =
     let header = header-in bits in
     (not (eqb (header .version) the-version) ⇒ Version)
@@ -60,12 +61,12 @@ body-checks bits =
     ∷ task-count-check (header .task-count)
     ∷ layout-checks 0 (header .task-count) (records-in bits)
 
-unfoldable pub set-in : List Bool → Sheet
-set-in bits = let header = header-in bits in sheet-with (header .policy) (tasks-in (header .task-count) (records-in bits))
+unfoldable pub set-in : List Bool → TaskSet
+set-in bits = let header = header-in bits in set-with (header .policy) (tasks-in (header .task-count) (records-in bits))
 
 unfoldable pub body-reading : List Bool → Reading
-body-reading bits = reading-of (outcome (body-checks bits)) (set-in bits)
+body-reading bits = reading-of (decided (body-checks bits)) (set-in bits)
 
 -- "Then task by task 9, 10, 11."
-unfoldable pub judged : Sheet → Reading
-judged s = reading-of (outcome (task-checks 0 (map task-in (records-of s)))) s
+unfoldable pub judged : TaskSet → Reading
+judged s = reading-of (decided (task-checks 0 (map task-in (records-of s)))) s

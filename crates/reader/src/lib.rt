@@ -10,7 +10,7 @@ ghost use Rattle.sheet.specs.Constants.{time-width, most-tasks, most-frames, gr
 ghost use Rattle.sheet.specs.Fields.{unpacked, frame-widths};
 ghost use Rattle.sheet.specs.Layout.{frame-count-in, task-at-start, records-in};
 ghost use Rattle.sheet.specs.Tasks.{record-of};
-ghost use Rattle.sheet.specs.Admission.{outcome};
+ghost use Rattle.sheet.specs.Admission.{decided};
 ghost use Rattle.sheet.specs.Reading.{layout-checks, reading};
 ghost use Rattle.reader.specs.Parts.{turned-away, found-at, nothing-found, records-reading, body-reading, judged};
 use bits::Taken;
@@ -19,6 +19,7 @@ use sheet::Reading;
 use sheet::Refusal;
 use sheet::Sheet;
 use sheet::Task;
+use sheet::TaskSet;
 
 const POLICY_AT: usize = Sheet::VERSION_WIDTH;
 
@@ -51,7 +52,7 @@ fn refused(why: Refusal) -> Reading
 {
     Reading {
         answer: Answer::Refused(why),
-        sheet: Sheet::blank(),
+        set: TaskSet::blank(),
     }
 }
 
@@ -143,7 +144,7 @@ fn read_record(body: &[u8], at: usize, i: u32) -> Found
 // What stands behind the last record: 8 for bits left, 5 for fill bits.
 fn check_fill(body: &[u8], at: usize) -> Answer
     requires { ⌜ (at ≤ 8 * length (now body)) × (length (now body) ≤ greatest-size) ⌝ }
-    ensures { λ r. ⌜ r ≡ outcome (layout-checks 0 0 (drop at (bits-of (now (body .entry))))) ⌝ }
+    ensures { λ r. ⌜ r ≡ decided (layout-checks 0 0 (drop at (bits-of (now (body .entry))))) ⌝ }
 {
     let left = 8 * body.len() - at;
     if 8 <= left {
@@ -181,7 +182,7 @@ fn read_records(body: &[u8], policy: u32, count: u32) -> Reading
         Answer::Refused(why) => refused(why),
         Answer::Admitted => Reading {
             answer: Answer::Admitted,
-            sheet: Sheet {
+            set: TaskSet {
                 policy,
                 task_count: count,
                 tasks,
@@ -215,14 +216,14 @@ fn read_body(body: &[u8]) -> Reading
 }
 
 // The tasks of a set that was read: 9, 10, 11 task by task.
-fn judge(sheet: Sheet) -> Reading
-    ensures { λ r. ⌜ r ≡ judged sheet ⌝ }
+fn judge(set: TaskSet) -> Reading
+    ensures { λ r. ⌜ r ≡ judged set ⌝ }
 {
-    match admission::admit_tasks(sheet) {
+    match admission::admit_tasks(set) {
         Answer::Refused(why) => refused(why),
         Answer::Admitted => Reading {
             answer: Answer::Admitted,
-            sheet,
+            set,
         },
     }
 }
@@ -247,6 +248,6 @@ pub fn read_sheet(bytes: &[u8]) -> Reading
     let answer = found.answer;
     match answer {
         Answer::Refused(_) => found,
-        Answer::Admitted => judge(found.sheet),
+        Answer::Admitted => judge(found.set),
     }
 }

@@ -13,14 +13,14 @@ use Rattle.theory.specs.Tasks.{Task, task-at, frame-count, Admitted as IsAdmitt
 use Rattle.theory.specs.Analysis.{Verdict, holds, missed, verdict, lower, blocking, passes}
 use Rattle.theory.proofs.Laws.{passes-frames, response-of-is}
 use Rattle.sheet.specs.Constants.{most-tasks, most-frames, least-size, greatest-size}
-use Rattle.sheet.specs.Admission.{outcome}
+use Rattle.sheet.specs.Admission.{decided}
 use Rattle.sheet.specs.Reading.{sheet-checks, policy-of, tasks-of, reading-by, reading}
-use Rattle.sheet.specs.Tasks.{record-of, sheet-with, blank-record, blank-sheet}
+use Rattle.sheet.specs.Tasks.{record-of, set-with, blank-record, blank-set}
 use Rattle.sheet.specs.declared.Answer.{Answer}
 use Rattle.sheet.specs.declared.Answer.the-variants.{Admitted}
 use Rattle.sheet.specs.declared.Answer.the-variants.{Refused as refused}
 use Rattle.sheet.specs.declared.Task.{Task as Record}
-use Rattle.sheet.specs.declared.Sheet.{Sheet}
+use Rattle.sheet.specs.declared.TaskSet.{TaskSet}
 use Rattle.sheet.specs.declared.Reading.{Reading}
 use Rattle.sheet.proofs.Analysable.{admitted-sheet-is-admitted}
 use Rattle.sheet.proofs.Checks.{applies}
@@ -29,7 +29,7 @@ use Rattle.sheet.proofs.Carried.{Carried, reading-answer, by-reading}
 use Rattle.sheet.proofs.Records.{tasks-with}
 use Rattle.order.specs.Order.{priority-order, ordered-set}
 use Rattle.order.specs.Ordered.{order-of, ordered, blocking-at}
-use Rattle.order.specs.Ordered.{tasks-of as ordered-tasks-of}
+use Rattle.order.specs.Ordered.{tasks-in-order}
 use Rattle.order.specs.declared.Ordered.{Ordered}
 use Rattle.order.proofs.Laws.{ordered-length, ordered-at, ordered-admitted, ordered-count, ordered-number, ordered-tasks}
 use Rattle.order.proofs.Order.{order-length, order-permutes}
@@ -70,8 +70,8 @@ missed-words l m = refl
 -- ---- an admitted set
 
 module _ (policy : ℕ) (tasks : List Task) (c : Carried policy tasks) (admitted : IsAdmitted tasks) where
-  abbrev sheet : Sheet
-  sheet = sheet-with policy tasks
+  abbrev sheet : TaskSet
+  sheet = set-with policy tasks
 
   abbrev o : Ordered
   o = ordered sheet
@@ -83,7 +83,7 @@ module _ (policy : ℕ) (tasks : List Task) (c : Carried policy tasks) (admitted
   set = ordered-set policy tasks
 
   order-same : order-of sheet ≡ order
-  unfolding order-of sheet-with
+  unfolding order-of set-with
   order-same = ap (priority-order policy) (tasks-with policy tasks)
 
   count-same : o .count ≡ length tasks
@@ -93,8 +93,8 @@ module _ (policy : ℕ) (tasks : List Task) (c : Carried policy tasks) (admitted
   unfolding number-at
   number-same p = ordered-number sheet p ∙ ap (λ (l : List ℕ). getD l p 0) order-same
 
-  set-same : ordered-tasks-of o ≡ set
-  unfolding sheet-with
+  set-same : tasks-in-order o ≡ set
+  unfolding set-with
   set-same = ordered-tasks sheet ∙ ap (ordered-set policy) (tasks-with policy tasks)
 
   blocking-same : (p : ℕ) → blocking-at o p ≡ blocking (lower set p)
@@ -107,7 +107,7 @@ module _ (policy : ℕ) (tasks : List Task) (c : Carried policy tasks) (admitted
 
   -- the record at a place of the ordered set holds the task there
   record-same : (p : ℕ) → p < length tasks → getD (o .tasks) p no-record ≡ record-of (task-at set p)
-  unfolding ordered sheet-with task-at number-at
+  unfolding ordered set-with task-at number-at
   record-same p h =
       mapped-at (λ i. getD (sheet .tasks) i blank-record) (order-of sheet) _ p 0 no-record (omega (arith, ap length order-same, order-length policy tasks))
       ∙ ap (λ (l : List ℕ). getD (sheet .tasks) (getD l p 0) blank-record) order-same
@@ -231,11 +231,11 @@ lines-printed policy tasks = go (verdict (ordered-set policy tasks))
     go (missed p b) = unfold verdict-number lines-behind in refl
 
 -- beside a refusal stands a set with no task
-none-counted : ordered blank-sheet .count ≡ 0
-unfolding blank-sheet
-none-counted = ordered-count (sheet-with 0 []) ∙ ap length (tasks-with 0 [])
+none-counted : ordered blank-set .count ≡ 0
+unfolding blank-set
+none-counted = ordered-count (set-with 0 []) ∙ ap length (tasks-with 0 [])
 
-none-limited : Limited (ordered blank-sheet)
+none-limited : Limited (ordered blank-set)
 none-limited =
     record {
       few-tasks = omega (arith, none-counted);
@@ -247,16 +247,16 @@ none-limited =
 module _ (s : List ℕ) where
   -- what the analysis, the reader and the order give for a string that is answered so
   record Reported (a : Answer) : Type 0 where
-    set-limited : Limited (ordered (reading-by a s .sheet))
+    set-limited : Limited (ordered (reading-by a s .set))
     times-all : length (analysis-by a (policy-of s) (tasks-of s) .times) ≡ 128
     text-same :
         let analysis = analysis-by a (policy-of s) (tasks-of s) in
-        let o = ordered (reading-by a s .sheet) in
+        let o = ordered (reading-by a s .set) in
         let answer = outcome-by a (policy-of s) (tasks-of s) in
         first-line (analysis .outcome) (analysis .«task_count») ++ row-lines o (analysis .times) (o .count)
         ≡ first-line answer (length (tasks-of s)) ++ lines-behind answer (policy-of s) (tasks-of s)
 
-  by-answer : (a : Answer) → outcome (sheet-checks s) ≡ a → Reported a
+  by-answer : (a : Answer) → decided (sheet-checks s) ≡ a → Reported a
   unfolding analysis-by refused-analysis reading-by outcome-by first-line lines-behind
   by-answer Admitted e =
       let read = reading-answer s ∙ e in
@@ -271,13 +271,13 @@ module _ (s : List ℕ) where
       record {
         set-limited = none-limited;
         times-all = length-replicate {A = ℕ} 128 0;
-        text-same = ap (λ (l : List ℕ). first-line (Refused r) 0 ++ l) (ap (row-lines (ordered blank-sheet) (replicate 128 0)) none-counted ∙ no-rows _ _);
+        text-same = ap (λ (l : List ℕ). first-line (Refused r) 0 ++ l) (ap (row-lines (ordered blank-set) (replicate 128 0)) none-counted ∙ no-rows _ _);
       }
 
-  reported : Reported (outcome (sheet-checks s))
-  reported = by-answer (outcome (sheet-checks s)) refl
+  reported : Reported (decided (sheet-checks s))
+  reported = by-answer (decided (sheet-checks s)) refl
 
-  reading-limited : Limited (ordered (reading s .sheet))
+  reading-limited : Limited (ordered (reading s .set))
   unfolding reading
   reading-limited = reported .set-limited
 
@@ -287,7 +287,7 @@ module _ (s : List ℕ) where
 
   text-reported :
       first-line (sheet-analysis s .outcome) (sheet-analysis s .«task_count»)
-      ++ row-lines (ordered (reading s .sheet)) (sheet-analysis s .times) (ordered (reading s .sheet) .count)
+      ++ row-lines (ordered (reading s .set)) (sheet-analysis s .times) (ordered (reading s .set) .count)
       ≡ report s
   unfolding reading sheet-analysis report
   text-reported = reported .text-same
@@ -296,12 +296,12 @@ module _ (s : List ℕ) where
   pub report-fits : length (report s) ≤ room
   report-fits =
       rw (← text-reported, length-append)
-      (omega (arith, first-line-length (sheet-analysis s .outcome) (sheet-analysis s .«task_count»), rows-length (ordered (reading s .sheet)) (sheet-analysis s .times) (ordered (reading s .sheet) .count) reading-limited analysis-times (le-refl _), reading-limited .few-tasks))
+      (omega (arith, first-line-length (sheet-analysis s .outcome) (sheet-analysis s .«task_count»), rows-length (ordered (reading s .set)) (sheet-analysis s .times) (ordered (reading s .set) .count) reading-limited analysis-times (le-refl _), reading-limited .few-tasks))
 
   -- the same by what the code's calls gave
-  module _ (found : Reading) (o : Ordered) (analysis : Analysis) (read : found ≡ reading s) (in-order : o ≡ ordered (found .sheet)) (analysed : analysis ≡ sheet-analysis s) where
-    o-is : o ≡ ordered (reading s .sheet)
-    o-is = in-order ∙ ap (λ (r : Reading). ordered (r .sheet)) read
+  module _ (found : Reading) (o : Ordered) (analysis : Analysis) (read : found ≡ reading s) (in-order : o ≡ ordered (found .set)) (analysed : analysis ≡ sheet-analysis s) where
+    o-is : o ≡ ordered (reading s .set)
+    o-is = in-order ∙ ap (λ (r : Reading). ordered (r .set)) read
 
     pub found-limited : Limited o
     found-limited = subst⁻¹ Limited o-is reading-limited
@@ -317,7 +317,7 @@ module _ (s : List ℕ) where
 -- ---- a 453rd byte
 
 -- "1: sheet .. longer than 452 bytes"
-length-refused : (s : List ℕ) → greatest-size < length s → outcome (sheet-checks s) ≡ refused Length
+length-refused : (s : List ℕ) → greatest-size < length s → decided (sheet-checks s) ≡ refused Length
 unfolding sheet-checks
 length-refused s h = applies (not (leb least-size (length s) && leb (length s) greatest-size)) Length _ (go (leb least-size (length s)))
   where

@@ -6,7 +6,7 @@ use lib.ListN.{length}
 use Rattle.theory.specs.Tasks.{Task, task-at, frame-count}
 use Rattle.theory.specs.Analysis.{lower, blocking, passes}
 use Rattle.sheet.specs.Refusals.{number-of}
-use Rattle.sheet.specs.Admission.{outcome}
+use Rattle.sheet.specs.Admission.{decided}
 use Rattle.sheet.specs.Reading.{sheet-checks, policy-of, tasks-of}
 use Rattle.order.specs.Order.{priority-order, ordered-set}
 use Rattle.order.specs.declared.Blocker.{Blocker}
@@ -56,5 +56,5 @@ lines-behind (Refused r) policy tasks = []
 -- the report on a byte string; of a longer input its first 453 bytes, since "a 453rd byte means refusal 1"
 unfoldable pub report : List ℕ → List ℕ
 report s =
-    let answer = outcome-by (outcome (sheet-checks s)) (policy-of s) (tasks-of s) in
+    let answer = outcome-by (decided (sheet-checks s)) (policy-of s) (tasks-of s) in
     first-line answer (length (tasks-of s)) ++ lines-behind answer (policy-of s) (tasks-of s)

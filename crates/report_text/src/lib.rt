@@ -223,7 +223,7 @@ pub fn report_text(sheet: &[u8]) -> Text
 {
     let analysis = analysis::analyse_bytes(sheet);
     let reading = reader::read_sheet(sheet);
-    let o = order::in_order(reading.sheet);
+    let o = order::in_order(reading.set);
     let outcome = analysis.outcome;
     let times = analysis.times;
     assembled(outcome, analysis.task_count, o, &times)

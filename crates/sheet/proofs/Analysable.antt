@@ -15,7 +15,7 @@ use Rattle.sheet.specs.Constants.{most-tasks, greatest-time}
 use Rattle.sheet.specs.Tasks.{task-in, records-of}
 use Rattle.sheet.specs.Admission.{all, is-time, well-formed, lock-fits, monotonic, admission}
 use Rattle.sheet.specs.Reading.{tasks-of, reading}
-use Rattle.sheet.specs.declared.Sheet.{Sheet}
+use Rattle.sheet.specs.declared.TaskSet.{TaskSet}
 use Rattle.sheet.specs.declared.Answer.the-variants.{Admitted}
 use Rattle.sheet.proofs.InFields.{Each, no-task, task-more, each-map, Formed, each-formed, range-of, some-searched}
 use Rattle.sheet.proofs.Carried.{Carried, by-admission, by-reading}
@@ -70,7 +70,7 @@ carried-admitted : {policy : ℕ} {ts : List Task} → Carried policy ts → IsA
 carried-admitted {ts} c = record { some-task = c .some-task; each-task = each-at (each-map task-admitted (each-formed 0 ts (c .formed))) }
 
 -- The tasks of an admitted set are admitted in the sense of the theory.
-pub admitted-set-is-admitted : (s : Sheet) → length (s .tasks) ≡ most-tasks → admission s ≡ Admitted → IsAdmitted (map task-in (records-of s))
+pub admitted-set-is-admitted : (s : TaskSet) → length (s .tasks) ≡ most-tasks → admission s ≡ Admitted → IsAdmitted (map task-in (records-of s))
 admitted-set-is-admitted s room e = carried-admitted (by-admission s room e)
 
 -- So are those of an admitted sheet.

@@ -13,7 +13,7 @@ use Rattle.check_word.specs.Change.{AgreeOutside, inverted, with-bit-inverted}
 use Rattle.check_word.specs.Division.{sealed}
 use Rattle.check_word.proofs.Detects.{detects-burst, detects-one-bit}
 use Rattle.sheet.specs.Constants.{least-size, greatest-size}
-use Rattle.sheet.specs.Tasks.{blank-sheet}
+use Rattle.sheet.specs.Tasks.{blank-set}
 use Rattle.sheet.specs.Reading.{sheet-checks, reading-by, reading}
 use Rattle.sheet.specs.declared.Answer.{Answer}
 use Rattle.sheet.specs.declared.Answer.the-variants.{Admitted, Refused}
@@ -23,7 +23,7 @@ use Rattle.sheet.proofs.Carried.{Found, found}
 
 -- a byte string of a lawful length that is not sealed is refusal 2
 pub unsealed-is-refused-2 : (t : List ℕ) → least-size ≤ length t → length t ≤ greatest-size → sealed t ≡ false
-    → reading t ≡ record { answer = Refused CheckWord; sheet = blank-sheet }
+    → reading t ≡ record { answer = Refused CheckWord; set = blank-set }
 unfolding reading reading-by sheet-checks
 unsealed-is-refused-2 t l h e =
     ap (λ (a : Answer). reading-by a t)
@@ -34,7 +34,7 @@ unsealed-is-refused-2 t l h e =
 -- An admitted sheet changed in any way within sixteen neighbouring bits, its length kept, is refused, and the refusal is 2.
 pub burst-is-refused-2 : (s t : List ℕ) (k : ℕ) → Bytes s → Bytes t → reading s .answer ≡ Admitted → length s ≡ length t
     → AgreeOutside k 16 (bits-of s) (bits-of t) → ¬ (s ≡ t)
-    → reading t ≡ record { answer = Refused CheckWord; sheet = blank-sheet }
+    → reading t ≡ record { answer = Refused CheckWord; set = blank-set }
 burst-is-refused-2 s t k hs ht a l same ne =
     let f : Found s = found s a in
     unsealed-is-refused-2 t (omega arith) (omega arith) (detects-burst s t k hs ht l (f .sealed-well) same ne)
@@ -45,7 +45,7 @@ length-inverted s i = length-bytes (length s) (inverted i (bits-of s))
 
 -- "An admitted sheet with any one bit changed is refused."
 pub one-bit-is-refused : (s : List ℕ) (i : ℕ) → Bytes s → reading s .answer ≡ Admitted → i < 8 * length s
-    → reading (with-bit-inverted i s) ≡ record { answer = Refused CheckWord; sheet = blank-sheet }
+    → reading (with-bit-inverted i s) ≡ record { answer = Refused CheckWord; set = blank-set }
 one-bit-is-refused s i hs a h =
     let f : Found s = found s a in
     let l : length (with-bit-inverted i s) ≡ length s = length-inverted s i in

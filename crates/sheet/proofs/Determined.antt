@@ -6,7 +6,7 @@ use Rattle.sheet.specs.Admission.{admission}
 use Rattle.sheet.specs.Reading.{reading}
 use Rattle.sheet.specs.Writing.{written, left}
 use Rattle.sheet.specs.Refusals.{number-of, task-of-refusal}
-use Rattle.sheet.specs.declared.Sheet.{Sheet}
+use Rattle.sheet.specs.declared.TaskSet.{TaskSet}
 use Rattle.sheet.specs.declared.Answer.{Answer}
 use Rattle.sheet.specs.declared.Reading.{Reading}
 use Rattle.sheet.specs.declared.Written.{Written}
@@ -25,14 +25,14 @@ pub one-reading : (s : List ℕ) (a b : Reading) → Conforms reading s a → Co
 one-reading = one-answer reading
 
 -- of admission
-pub one-admission : (s : Sheet) (a b : Answer) → Conforms admission s a → Conforms admission s b → a ≡ b
+pub one-admission : (s : TaskSet) (a b : Answer) → Conforms admission s a → Conforms admission s b → a ≡ b
 one-admission = one-answer admission
 
 -- of the writer: what it returns, and what the lent bytes hold afterwards
-pub one-written : (s : Sheet) (room : List ℕ) (a b : Written) → Conforms (written s) room a → Conforms (written s) room b → a ≡ b
+pub one-written : (s : TaskSet) (room : List ℕ) (a b : Written) → Conforms (written s) room a → Conforms (written s) room b → a ≡ b
 one-written s = one-answer (written s)
 
-pub one-left : (s : Sheet) (room : List ℕ) (a b : List ℕ) → Conforms (left s) room a → Conforms (left s) room b → a ≡ b
+pub one-left : (s : TaskSet) (room : List ℕ) (a b : List ℕ) → Conforms (left s) room a → Conforms (left s) room b → a ≡ b
 one-left s = one-answer (left s)
 
 -- of a refusal's number and task number

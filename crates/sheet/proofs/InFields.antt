@@ -12,10 +12,10 @@ use Rattle.theory.specs.First.{first, found}
 use Rattle.theory.specs.Tasks.{Task, frame-count, qualifies}
 use Rattle.sheet.specs.Constants.{most-frames, greatest-time, time-width}
 use Rattle.sheet.specs.Fields.{frame-widths}
-use Rattle.sheet.specs.Admission.{outcome, all, is-time, in-range, well-formed, lock-fits, monotonic, task-checks}
+use Rattle.sheet.specs.Admission.{decided, all, is-time, in-range, well-formed, lock-fits, monotonic, task-checks}
 use Rattle.sheet.specs.declared.Answer.the-variants.{Admitted}
+use Rattle.sheet.proofs.Checks.{passed}
 use Rattle.sheet.proofs.Packing.{Fit, no-field, one-more}
-use Rattle.sheet.proofs.Passed.{passed}
 
 -- a task whose numbers fit their fields
 pub record InFields (t : Task) : Type 0 where
@@ -109,7 +109,7 @@ pub record Formed (t : Task) : Type 0 where
   pub locked : lock-fits t ≡ true
   pub starts : monotonic t ≡ true
 
-pub each-formed : (i : ℕ) (ts : List Task) → outcome (task-checks i ts) ≡ Admitted → Each Formed ts
+pub each-formed : (i : ℕ) (ts : List Task) → decided (task-checks i ts) ≡ Admitted → Each Formed ts
 unfolding task-checks
 each-formed i [] e = no-task
 each-formed i (t ∷ ts) e =
@@ -122,5 +122,5 @@ each-formed i (t ∷ ts) e =
     (each-formed (suc i) ts (eleven .1))
 
 -- tasks with at most eight frames each that pass 9, 10 and 11
-pub tasks-in-fields : (i : ℕ) (ts : List Task) → outcome (task-checks i ts) ≡ Admitted → Each FewFrames ts → Each InFields ts
+pub tasks-in-fields : (i : ℕ) (ts : List Task) → decided (task-checks i ts) ≡ Admitted → Each FewFrames ts → Each InFields ts
 tasks-in-fields i ts e few = each-both (λ t f h. task-in-fields t (f .ranged) (f .starts) h) (each-formed i ts e) few

@@ -2,7 +2,8 @@
 pub mod Checks
 pub mod Records
 pub mod Packing
-pub mod Passed
+pub mod Counts
+pub mod Rounds
 pub mod InFields
 pub mod RecordBits
 pub mod Carried

@@ -12,13 +12,13 @@ use Rattle.theory.specs.Tasks.{Task}
 use Rattle.sheet.specs.Constants.{the-version, most-frames, policy-width, task-count-width, frame-count-width, time-width}
 use Rattle.sheet.specs.Fields.{packed, unpacked, total, header-widths, fixed-widths, frame-widths}
 use Rattle.sheet.specs.Layout.{Header, header-in, records-in, frame-count-in, record-width, task-at-start, tasks-in}
-use Rattle.sheet.specs.Admission.{outcome, frame-count-check}
+use Rattle.sheet.specs.Admission.{decided, frame-count-check}
 use Rattle.sheet.specs.Reading.{some-set, layout-checks}
 use Rattle.sheet.specs.Writing.{header-bits, task-bits, tasks-bits}
 use Rattle.sheet.specs.declared.Answer.the-variants.{Admitted}
 use Rattle.sheet.proofs.Packing.{Fit, no-field, one-more, length-packed, length-unpacked, unpacked-packed, packed-unpacked, fit-length}
-use Rattle.sheet.proofs.Checks.{passed-over}
-use Rattle.sheet.proofs.Passed.{passed, no-check, count-passes, count-passed}
+use Rattle.sheet.proofs.Checks.{passed-over, passed, no-check}
+use Rattle.sheet.proofs.Counts.{count-passes, count-passed}
 use Rattle.sheet.proofs.InFields.{InFields, Each, no-task, task-more, FramesCounted}
 
 -- ---- the header
@@ -163,7 +163,7 @@ pub record LaidOut (n : ℕ) (bits : List Bool) : Type 0 where
   pub bits-are : bits ≡ tasks-bits (tasks-in n bits) ++ replicate fill false
   pub counted : Each FramesCounted (tasks-in n bits)
 
-pub layout-read : (i n : ℕ) (bits : List Bool) → outcome (layout-checks i n bits) ≡ Admitted → LaidOut n bits
+pub layout-read : (i n : ℕ) (bits : List Bool) → decided (layout-checks i n bits) ≡ Admitted → LaidOut n bits
 unfolding layout-checks frame-count-check tasks-in tasks-bits
 layout-read i zero bits e =
     let few = passed _ _ e in
@@ -188,7 +188,7 @@ layout-read i (suc n) bits e =
 
 -- the checks of a record that was written pass
 first-written : (i n : ℕ) (t : Task) (rest : List Bool) → InFields t
-    → outcome (layout-checks i (suc n) (task-bits t ++ rest)) ≡ outcome (layout-checks (suc i) n rest)
+    → decided (layout-checks i (suc n) (task-bits t ++ rest)) ≡ decided (layout-checks (suc i) n rest)
 unfolding layout-checks frame-count-check
 first-written i n t rest h =
     let bits = task-bits t ++ rest in
@@ -196,16 +196,16 @@ first-written i n t rest h =
     passed-over _ _ _ (le-ltb (length bits) (total fixed-widths) (omega (arith, length-task-bits t)))
     ∙ passed-over _ _ _ (count-passes (frame-count-in bits) most-frames (omega (arith, frame-count-written t rest h, h .some-frame)) (omega (arith, frame-count-written t rest h, h .few-frames)))
     ∙ passed-over _ _ _ (le-ltb (length bits) (record-width bits) (omega (arith, width-written t rest h)))
-    ∙ ap (λ (bs : List Bool). outcome (layout-checks (suc i) n bs)) (next-written t rest h)
+    ∙ ap (λ (bs : List Bool). decided (layout-checks (suc i) n bs)) (next-written t rest h)
 
 -- records that were written, with fewer than eight zeros behind them, are laid out well
 pub layout-written : (i : ℕ) (ts : List Task) (fill : ℕ) → Each InFields ts → fill < 8
-    → outcome (layout-checks i (length ts) (tasks-bits ts ++ replicate fill false)) ≡ Admitted
+    → decided (layout-checks i (length ts) (tasks-bits ts ++ replicate fill false)) ≡ Admitted
 unfolding layout-checks tasks-bits
 layout-written i [] fill no-task h =
     let short : length (replicate fill false) < 8 = rw length-replicate h in
     passed-over _ _ _ (lt-leb 8 (length (replicate fill false)) short) ∙ passed-over _ _ _ (zeros-unset fill) ∙ no-check
 layout-written i (t ∷ ts) fill (task-more f fs) h =
-    ap (λ (bs : List Bool). outcome (layout-checks i (suc (length ts)) bs)) (append-assoc (task-bits t) (tasks-bits ts) (replicate fill false))
+    ap (λ (bs : List Bool). decided (layout-checks i (suc (length ts)) bs)) (append-assoc (task-bits t) (tasks-bits ts) (replicate fill false))
     ∙ first-written i (length ts) t (tasks-bits ts ++ replicate fill false) f
     ∙ layout-written (suc i) ts fill fs h

@@ -13,17 +13,17 @@ use Rattle.bits.proofs.Laws.{length-bits, bytes-bits, bytes-take, bytes-are-byt
 use Rattle.check_word.specs.Division.{seal, body, sealed}
 use Rattle.check_word.proofs.Sealing.{sealed-seal, body-seal, seal-body, bytes-seal}
 use Rattle.theory.specs.Tasks.{Task}
-use Rattle.sheet.specs.Constants.{the-version, most-tasks, deadline-monotonic, least-size, greatest-size}
+use Rattle.sheet.specs.Constants.{the-version, most-tasks, least-size, greatest-size}
 use Rattle.sheet.specs.Fields.{total, header-widths}
-use Rattle.sheet.specs.Tasks.{sheet-with}
+use Rattle.sheet.specs.Tasks.{set-with}
 use Rattle.sheet.specs.Layout.{Header, header-in, records-in, tasks-in}
-use Rattle.sheet.specs.Admission.{outcome, policy-check, task-count-check, task-checks}
+use Rattle.sheet.specs.Admission.{decided, known-policy, policy-check, task-count-check, task-checks}
 use Rattle.sheet.specs.Reading.{layout-checks, sheet-checks, policy-of, tasks-of, reading}
 use Rattle.sheet.specs.Writing.{header-bits, tasks-bits, whole-bytes, sheet-of}
 use Rattle.sheet.specs.declared.Reading.{Reading}
 use Rattle.sheet.specs.declared.Answer.the-variants.{Admitted}
 use Rattle.sheet.proofs.Checks.{admitted-first, passed-over}
-use Rattle.sheet.proofs.Passed.{count-passes}
+use Rattle.sheet.proofs.Counts.{count-passes, policy-passes, known-small}
 use Rattle.sheet.proofs.RecordBits.{header-written, records-written, header-read, tasks-written, layout-written, length-tasks-in}
 use Rattle.sheet.proofs.Sizes.{fill-of, fill-short, bits-whole, size-between}
 use Rattle.sheet.proofs.Carried.{Carried, carried-fit, Found, reading-answer, admitted-reading}
@@ -53,7 +53,7 @@ module _ (policy : ℕ) (ts : List Task) (c : Carried policy ts) where
 
   header-is : header-in (bits-of (body (sheet-of policy ts))) ≡ the-header
   unfolding the-header
-  header-is = ap header-in body-bits ∙ header-written policy (length ts) behind-header (omega (arith, c .policy-known)) (omega (arith, c .few-tasks))
+  header-is = ap header-in body-bits ∙ header-written policy (length ts) behind-header (omega (arith, known-small policy (c .policy-known))) (omega (arith, c .few-tasks))
 
   records-are : records-in (bits-of (body (sheet-of policy ts))) ≡ behind-header
   records-are = ap records-in body-bits ∙ records-written policy (length ts) behind-header
@@ -70,7 +70,7 @@ module _ (policy : ℕ) (ts : List Task) (c : Carried policy ts) where
   unfolding sheet-of set-bits
   is-sealed = sealed-seal (whole-bytes (set-bits policy ts))
 
-  checks-admit : outcome (sheet-checks (sheet-of policy ts)) ≡ Admitted
+  checks-admit : decided (sheet-checks (sheet-of policy ts)) ≡ Admitted
   unfolding sheet-checks policy-check task-count-check the-header behind-header fill
   checks-admit =
       let s = sheet-of policy ts in
@@ -78,22 +78,22 @@ module _ (policy : ℕ) (ts : List Task) (c : Carried policy ts) where
       passed-over _ _ _ (rw (le-leb least-size (length s) (size .0), le-leb (length s) greatest-size (size .1)))
       ∙ passed-over _ _ _ (ap not is-sealed)
       ∙ passed-over _ _ _ (ap (λ (h : Header). not (eqb (h .version) the-version)) header-is)
-      ∙ passed-over _ _ _ (ap (λ (h : Header). ltb deadline-monotonic (h .policy)) header-is ∙ le-ltb deadline-monotonic policy (c .policy-known))
+      ∙ passed-over _ _ _ (ap (λ (h : Header). not (known-policy (h .policy))) header-is ∙ policy-passes policy (c .policy-known))
       ∙ passed-over _ _ _ (ap (λ (h : Header). not (eqb (h .spare) 0)) header-is)
       ∙ passed-over _ _ _
       (ap (λ (h : Header). eqb (h .task-count) 0 || ltb most-tasks (h .task-count)) header-is
       ∙ count-passes (length ts) most-tasks (c .some-task) (c .few-tasks))
-      ∙ ap₂ (λ (h : Header) (bs : List Bool). outcome (layout-checks 0 (h .task-count) bs ++ task-checks 0 (tasks-in (h .task-count) bs))) header-is records-are
+      ∙ ap₂ (λ (h : Header) (bs : List Bool). decided (layout-checks 0 (h .task-count) bs ++ task-checks 0 (tasks-in (h .task-count) bs))) header-is records-are
       ∙ admitted-first (layout-checks 0 (length ts) behind-header) (task-checks 0 (tasks-in (length ts) behind-header))
       (layout-written 0 ts fill (carried-fit c) (fill-short (set-bits policy ts)))
-      ∙ ap (λ (us : List Task). outcome (task-checks 0 us)) (tasks-written ts (replicate fill false) (carried-fit c))
+      ∙ ap (λ (us : List Task). decided (task-checks 0 us)) (tasks-written ts (replicate fill false) (carried-fit c))
       ∙ c .formed
 
   -- A sheet of 1 to 16 tasks that pass every check is read as it was written.
-  pub sheet-is-read : reading (sheet-of policy ts) ≡ record { answer = Admitted; sheet = sheet-with policy ts }
+  pub sheet-is-read : reading (sheet-of policy ts) ≡ record { answer = Admitted; set = set-with policy ts }
   sheet-is-read =
       admitted-reading (sheet-of policy ts) (reading-answer (sheet-of policy ts) ∙ checks-admit)
-      ∙ ap₂ (λ (p : ℕ) (us : List Task). let r : Reading = record { answer = Admitted; sheet = sheet-with p us } in r) policy-is tasks-are
+      ∙ ap₂ (λ (p : ℕ) (us : List Task). let r : Reading = record { answer = Admitted; set = set-with p us } in r) policy-is tasks-are
 
 -- ---- from a sheet to its set and back
 

@@ -14,7 +14,7 @@ use Rattle.sheet.specs.Fields.{total, header-widths, fixed-widths, frame
 use Rattle.sheet.specs.Tasks.{task-in, records-of}
 use Rattle.sheet.specs.Admission.{admission}
 use Rattle.sheet.specs.Writing.{header-bits, task-bits, tasks-bits, whole-bytes, sheet-of, sheet-bytes}
-use Rattle.sheet.specs.declared.Sheet.{Sheet}
+use Rattle.sheet.specs.declared.TaskSet.{TaskSet}
 use Rattle.sheet.specs.declared.Answer.the-variants.{Admitted}
 use Rattle.sheet.proofs.Packing.{total-replicate}
 use Rattle.sheet.proofs.InFields.{Each, no-task, task-more, FramesCounted}
@@ -115,7 +115,7 @@ size-between policy ts l h c =
     omega arith
 
 -- A sheet of an admitted set has 15 to 452 bytes.
-pub admitted-size : (s : Sheet) → length (s .tasks) ≡ most-tasks → admission s ≡ Admitted
+pub admitted-size : (s : TaskSet) → length (s .tasks) ≡ most-tasks → admission s ≡ Admitted
     → (least-size ≤ length (sheet-bytes s)) × (length (sheet-bytes s) ≤ greatest-size)
 unfolding sheet-bytes
 admitted-size s room e =

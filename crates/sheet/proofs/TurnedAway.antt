@@ -5,48 +5,51 @@ use mathlib.Core.Path.{_≡_, refl, sym, ap, _∙_}
 use Prim.Native.Nat.{ℕ, suc, _+_, _≤_, _<_}
 use native.Mathlib.Nat.{zero-add, add-zero}
 use native.Mathlib.Omega.{arith}
-use borrow.Author.Tests.{le-leb, lt-leb, le-ltb}
+use borrow.Author.Tests.{le-leb, lt-leb}
 use lib.Dec.{leb}
 use lib.ListN.{length, length-append}
 use Rattle.theory.specs.Tasks.{Task, largest}
-use Rattle.sheet.specs.Constants.{most-tasks, greatest-time, deadline-monotonic}
-use Rattle.sheet.specs.Tasks.{sheet-with}
-use Rattle.sheet.specs.Admission.{Check, _⇒_, outcome, all, in-range, well-formed, lock-fits, monotonic, policy-check, task-count-check, list-checks, task-checks, admission}
+use Rattle.sheet.specs.Constants.{most-tasks, greatest-time}
+use Rattle.sheet.specs.Tasks.{set-with}
+use Rattle.lent.specs.Checks.{Check, _⇒_}
+use Rattle.sheet.specs.Admission.{decided, all, in-range, well-formed, lock-fits, monotonic, known-policy, policy-check, task-count-check, list-checks, task-checks, admission}
 use Rattle.sheet.specs.declared.Answer.the-variants.{Admitted, Refused}
+use Rattle.sheet.specs.declared.Refusal.{Refusal}
 use Rattle.sheet.specs.declared.Refusal.the-variants.{TaskCount, IllFormed, Lock, NotMonotonic}
 use Rattle.sheet.proofs.Checks.{applies, admitted-first, passed-over}
+use Rattle.sheet.proofs.Counts.{policy-passes}
 use Rattle.sheet.proofs.InFields.{Each, FramesCounted, Ranged, range-of}
 use Rattle.sheet.proofs.Carried.{answer-of-tasks}
 
 -- "The list of no task gives 6."
-pub no-task-is-6 : (policy : ℕ) → policy ≤ deadline-monotonic → admission (sheet-with policy []) ≡ Refused TaskCount
-unfolding admission list-checks policy-check task-count-check sheet-with
-no-task-is-6 policy known = passed-over _ _ _ (le-ltb deadline-monotonic policy known) ∙ applies _ TaskCount _ refl
+pub no-task-is-6 : (policy : ℕ) → known-policy policy ≡ true → admission (set-with policy []) ≡ Refused TaskCount
+unfolding admission list-checks policy-check task-count-check set-with
+no-task-is-6 policy known = passed-over _ _ _ (policy-passes policy known) ∙ applies _ TaskCount _ refl
 
 -- the checks of tasks behind others
 checks-behind : (i : ℕ) (us ts : List Task) → task-checks i (us ++ ts) ≡ task-checks i us ++ task-checks (i + length us) ts
 unfolding task-checks
 checks-behind i [] ts = ap (λ (n : ℕ). task-checks n ts) (sym (add-zero i))
 checks-behind i (u ∷ us) ts =
-    ap (λ (cs : List Check). first-checks ++ cs) (checks-behind (suc i) us ts ∙ ap (λ (n : ℕ). task-checks (suc i) us ++ task-checks n ts) (omega arith))
+    ap (λ (cs : List (Check Refusal)). first-checks ++ cs) (checks-behind (suc i) us ts ∙ ap (λ (n : ℕ). task-checks (suc i) us ++ task-checks n ts) (omega arith))
   where
-    first-checks : List Check
+    first-checks : List (Check Refusal)
     first-checks = (not (in-range u && well-formed u) ⇒ IllFormed i) ∷ (not (lock-fits u) ⇒ Lock i) ∷ (not (monotonic u) ⇒ NotMonotonic i) ∷ []
 
 -- a list in which task number `length us` is t: policy and counts are in order, and the tasks before t pass
 pub record Reaches (policy : ℕ) (us : List Task) (t : Task) (vs : List Task) : Type 0 where
-  pub policy-known : policy ≤ deadline-monotonic
+  pub policy-known : known-policy policy ≡ true
   pub few-tasks : length (us ++ t ∷ vs) ≤ most-tasks
   pub counted : Each FramesCounted (us ++ t ∷ vs)
-  pub before : outcome (task-checks 0 us) ≡ Admitted
+  pub before : decided (task-checks 0 us) ≡ Admitted
 
 reached : (policy : ℕ) (us : List Task) (t : Task) (vs : List Task) → Reaches policy us t vs
-    → admission (sheet-with policy (us ++ t ∷ vs)) ≡ outcome (task-checks (length us) (t ∷ vs))
+    → admission (set-with policy (us ++ t ∷ vs)) ≡ decided (task-checks (length us) (t ∷ vs))
 reached policy us t vs r =
     answer-of-tasks policy (us ++ t ∷ vs) (r .policy-known) (rw (length-append us (t ∷ vs)) (omega arith)) (r .few-tasks) (r .counted)
-    ∙ ap outcome (checks-behind 0 us (t ∷ vs))
+    ∙ ap decided (checks-behind 0 us (t ∷ vs))
     ∙ admitted-first (task-checks 0 us) (task-checks (0 + length us) (t ∷ vs)) (r .before)
-    ∙ ap (λ (n : ℕ). outcome (task-checks n (t ∷ vs))) (zero-add (length us))
+    ∙ ap (λ (n : ℕ). decided (task-checks n (t ∷ vs))) (zero-add (length us))
 
 late : (t : Task) → t .deadline ≡ t .period + 1 → well-formed t ≡ false
 unfolding well-formed
@@ -56,7 +59,7 @@ late t e =
 
 -- "A task with D = T + 1 gives 9;"
 pub late-deadline-is-9 : (policy : ℕ) (us : List Task) (t : Task) (vs : List Task) → Reaches policy us t vs → t .deadline ≡ t .period + 1
-    → admission (sheet-with policy (us ++ t ∷ vs)) ≡ Refused (IllFormed (length us))
+    → admission (set-with policy (us ++ t ∷ vs)) ≡ Refused (IllFormed (length us))
 unfolding task-checks
 late-deadline-is-9 policy us t vs r e =
     reached policy us t vs r
@@ -76,7 +79,7 @@ lock-in-range t q e h =
 -- "with Q one above its largest frame (itself below 1,048,575), 10.", of a task that is in range and well formed
 pub lock-above-largest-is-10 : (policy : ℕ) (us : List Task) (t : Task) (vs : List Task) → Reaches policy us (with-lock t (largest (t .frames) + 1)) vs
     → in-range t ≡ true → well-formed t ≡ true → largest (t .frames) < greatest-time
-    → admission (sheet-with policy (us ++ with-lock t (largest (t .frames) + 1) ∷ vs)) ≡ Refused (Lock (length us))
+    → admission (set-with policy (us ++ with-lock t (largest (t .frames) + 1) ∷ vs)) ≡ Refused (Lock (length us))
 unfolding task-checks well-formed lock-fits
 lock-above-largest-is-10 policy us t vs r e f h =
     let q = largest (t .frames) + 1 in

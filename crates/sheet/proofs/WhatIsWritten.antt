@@ -1,52 +1,47 @@
 -- What the writer's answer says: bytes were written exactly where the set is admitted and its sheet has room.
-use mathlib.Core.List.{List, _++_}
+use mathlib.Core.List.{List}
 use mathlib.Core.Path.{_≡_, refl, ap, _∙_}
 use Prim.Native.Nat.{ℕ, _≤_}
 use native.Mathlib.Omega.{arith}
-use borrow.Author.Tests.{ltb-false, le-ltb}
-use lib.ListN.{length, take, drop}
-use lib.Seq.{take-at}
+use lib.ListN.{length, take}
+use Rattle.lent.specs.Lent.{laid}
+use Rattle.lent.proofs.Laid.{take-laid}
+use Rattle.lent.proofs.Lent.{Done, TurnedAway, Told, turned-away, is-done, told, done}
 use Rattle.sheet.specs.Tasks.{records-of}
 use Rattle.sheet.specs.Admission.{list-checks, admission}
-use Rattle.sheet.specs.Writing.{sheet-bytes, writing, written-by, left-by, written, left}
-use Rattle.sheet.specs.declared.Sheet.{Sheet}
+use Rattle.sheet.specs.Writing.{sheet-bytes, writing, written, left}
+use Rattle.sheet.specs.declared.TaskSet.{TaskSet}
 use Rattle.sheet.specs.declared.Written.the-variants.{Bytes}
-use Rattle.sheet.specs.declared.Answer.{Answer}
-use Rattle.sheet.specs.declared.Answer.the-variants.{Admitted, Refused}
-use Rattle.sheet.proofs.Checks.{admitted-first, passed-over}
-use Rattle.sheet.proofs.Passed.{passed, no-check, both-passed}
+use Rattle.sheet.specs.declared.Written.the-variants.{TurnedAway as refused}
+use Rattle.sheet.specs.declared.Answer.the-variants.{Admitted}
+use Rattle.sheet.specs.declared.Refusal.the-variants.{Room}
+use Rattle.sheet.proofs.Checks.{none-applies, admits}
 
-module _ (s : Sheet) (room : List ℕ) where
-  pub admitted-writing : writing s (length room) ≡ Admitted → (admission s ≡ Admitted) × (length (sheet-bytes s) ≤ length room)
+-- an admitted set whose sheet has room is written
+pub record IsWritten (s : TaskSet) (room : List ℕ) : Type 0 where
+  pub admitted : admission s ≡ Admitted
+  pub fits : length (sheet-bytes s) ≤ length room
+  pub answer : written s room ≡ Bytes (length (sheet-bytes s))
+  pub holds : left s room ≡ laid (sheet-bytes s) room
+
+module _ (s : TaskSet) (room : List ℕ) where
+  written-so : Done Room refused (writing s) room → IsWritten s room
+  unfolding writing written left admission
+  written-so d = record { admitted = admits (list-checks (s .policy) (s .«task_count») (records-of s)) (d .admitted); fits = d .room; answer = d .answer; holds = d .holds }
+
+  pub is-written : admission s ≡ Admitted → length (sheet-bytes s) ≤ length room → IsWritten s room
   unfolding writing admission
-  admitted-writing e =
-      let both = both-passed (list-checks (s .policy) (s .«task_count») (records-of s)) _ e in
-      (both .0, ltb-false (length room) (length (sheet-bytes s)) (passed _ _ (both .1) .0))
+  is-written e h = written-so (done Room refused (writing s) room (none-applies (list-checks (s .policy) (s .«task_count») (records-of s)) e) h)
 
-  pub writing-admits : admission s ≡ Admitted → length (sheet-bytes s) ≤ length room → writing s (length room) ≡ Admitted
-  unfolding writing admission
-  writing-admits e h =
-      admitted-first (list-checks (s .policy) (s .«task_count») (records-of s)) _ e
-      ∙ passed-over _ _ _ (le-ltb (length room) (length (sheet-bytes s)) h)
-      ∙ no-check
-
-  pub written-all : writing s (length room) ≡ Admitted → written s room ≡ Bytes (length (sheet-bytes s))
-  unfolding written written-by
-  written-all e = ap (λ (a : Answer). written-by a s) e
-
-  pub left-all : writing s (length room) ≡ Admitted → left s room ≡ sheet-bytes s ++ drop (length (sheet-bytes s)) room
-  unfolding left left-by
-  left-all e = ap (λ (a : Answer). left-by a s room) e
-
-  -- an answer of bytes was admitted, and counts the sheet
-  pub bytes-written : (n : ℕ) → written s room ≡ Bytes n → (writing s (length room) ≡ Admitted) × (n ≡ length (sheet-bytes s))
-  unfolding written written-by
-  bytes-written n e = go (writing s (length room)) refl e
+  -- an answer of bytes was written, and counts the sheet
+  pub bytes-written : (n : ℕ) → written s room ≡ Bytes n → IsWritten s room × (n ≡ length (sheet-bytes s))
+  unfolding written
+  bytes-written n e = go (told Room refused (writing s) room)
     where
-      go : (a : Answer) → writing s (length room) ≡ a → written-by a s ≡ Bytes n → (writing s (length room) ≡ Admitted) × (n ≡ length (sheet-bytes s))
-      go Admitted p q = (p, cc)
-      go (Refused r) p q = let z : _≡_ {A = ℕ} 0 1 = cc in let z : ⊥ = omega arith in absurd z
+      go : Told Room refused (writing s) room → IsWritten s room × (n ≡ length (sheet-bytes s))
+      go (is-done d) = let w : IsWritten s room = written-so d in let a = w .answer in (w, cc)
+      go (turned-away r t) = let a = t .answer in let z : _≡_ {A = ℕ} 0 1 = cc in let z : ⊥ = omega arith in absurd z
 
   -- the bytes that were written are the sheet
-  pub take-left : writing s (length room) ≡ Admitted → take (length (sheet-bytes s)) (left s room) ≡ sheet-bytes s
-  take-left e = ap (take (length (sheet-bytes s))) (left-all e) ∙ take-at (sheet-bytes s) (drop (length (sheet-bytes s)) room) (length (sheet-bytes s)) refl
+  pub take-left : IsWritten s room → take (length (sheet-bytes s)) (left s room) ≡ sheet-bytes s
+  take-left w = ap (take (length (sheet-bytes s))) (w .holds) ∙ take-laid (sheet-bytes s) room

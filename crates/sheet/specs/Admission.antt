@@ -5,30 +5,25 @@ use mathlib.Core.Option.{Option, none, some}
 use Prim.Native.Nat.{ℕ, zero, suc}
 use lib.Dec.{leb, ltb, eqb}
 use lib.ListN.{length}
+use Rattle.lent.specs.Checks.{Check, _⇒_, first-refusal}
 use Rattle.theory.specs.First.{first, found}
 use Rattle.theory.specs.Tasks.{Task, frame-count, largest, qualifies}
 use Rattle.sheet.specs.Constants.{most-tasks, most-frames, greatest-time, deadline-monotonic}
 use Rattle.sheet.specs.Tasks.{task-in, records-of}
 use Rattle.sheet.specs.declared.Task.{Task as Record}
-use Rattle.sheet.specs.declared.Sheet.{Sheet}
+use Rattle.sheet.specs.declared.TaskSet.{TaskSet}
 use Rattle.sheet.specs.declared.Answer.{Answer}
 use Rattle.sheet.specs.declared.Answer.the-variants.{Admitted, Refused}
 use Rattle.sheet.specs.declared.Refusal.{Refusal}
 use Rattle.sheet.specs.declared.Refusal.the-variants.{Policy, TaskCount, FrameCount, IllFormed, Lock, NotMonotonic}
 
--- a reason to turn away, and the refusal where it applies
-pub record Check : Type 0 where
-  pub applies : Bool
-  pub refusal : Refusal
+-- the answer to a row of checks: the first that applies decides
+abbrev pub answer-by : Option Refusal → Answer
+answer-by none = Admitted
+answer-by (some r) = Refused r
 
-infix 4 _⇒_
-abbrev pub _⇒_ : Bool → Refusal → Check
-b ⇒ r = record { applies = b; refusal = r }
-
--- the first check that applies decides
-unfoldable pub outcome : List Check → Answer
-outcome [] = Admitted
-outcome (c ∷ cs) = elim (c .applies) [ true ↦ Refused (c .refusal) | false ↦ outcome cs ]
+unfoldable pub decided : List (Check Refusal) → Answer
+decided cs = answer-by (first-refusal cs)
 
 -- every number of a list passes a test
 unfoldable pub all : (ℕ → Bool) → List ℕ → Bool
@@ -54,34 +49,46 @@ lock-fits t = leb (t .lock) (largest (t .frames))
 unfoldable pub monotonic : Task → Bool
 monotonic t = found (first 0 (frame-count t) (qualifies t))
 
--- "4: policy not 0, 1 or 2"
-unfoldable pub policy-check : ℕ → Check
-policy-check policy = ltb deadline-monotonic policy ⇒ Policy
+-- the policies that are known
+unfoldable pub known-policy : ℕ → Bool
+known-policy policy = leb policy deadline-monotonic
 
--- "6: task count 0 or over 16"
-unfoldable pub task-count-check : ℕ → Check
-task-count-check n = (eqb n 0 || ltb most-tasks n) ⇒ TaskCount
+-- 4: policy not 0, 1 or 2
+unfoldable pub policy-check : ℕ → Check Refusal
+policy-check policy = not (known-policy policy) ⇒ Policy
 
--- "7: frame count 0 or over 8", of task i
-unfoldable pub frame-count-check : ℕ → ℕ → Check
-frame-count-check i n = (eqb n 0 || ltb most-frames n) ⇒ FrameCount i
+-- a count is 0 or over its limit
+abbrev pub miscounted : ℕ → ℕ → Bool
+miscounted n most = eqb n 0 || ltb most n
 
--- "Then task by task 9, 10, 11." The first of the tasks has number i.
-unfoldable pub task-checks : ℕ → List Task → List Check
+-- 6: task count 0 or over 16
+unfoldable pub task-count-check : ℕ → Check Refusal
+task-count-check n = miscounted n most-tasks ⇒ TaskCount
+
+-- 7: frame count 0 or over 8, of task i
+unfoldable pub frame-count-check : ℕ → ℕ → Check Refusal
+frame-count-check i n = miscounted n most-frames ⇒ FrameCount i
+
+-- 9 and 10 of task i
+abbrev pub form-checks : ℕ → Task → List (Check Refusal)
+form-checks i t = (not (in-range t && well-formed t) ⇒ IllFormed i) ∷ (not (lock-fits t) ⇒ Lock i) ∷ []
+
+-- 11 of task i
+abbrev pub monotonic-check : ℕ → Task → Check Refusal
+monotonic-check i t = not (monotonic t) ⇒ NotMonotonic i
+
+-- task by task 9, 10, 11. The first of the tasks has number i.
+unfoldable pub task-checks : ℕ → List Task → List (Check Refusal)
 task-checks i [] = []
-task-checks i (t ∷ ts) =
-    (not (in-range t && well-formed t) ⇒ IllFormed i)
-    ∷ (not (lock-fits t) ⇒ Lock i)
-    ∷ (not (monotonic t) ⇒ NotMonotonic i)
-    ∷ task-checks (suc i) ts
+task-checks i (t ∷ ts) = form-checks i t ++ monotonic-check i t ∷ task-checks (suc i) ts
 
 -- "7 task by task"
-unfoldable pub frame-count-checks : ℕ → List Record → List Check
+unfoldable pub frame-count-checks : ℕ → List Record → List (Check Refusal)
 frame-count-checks i [] = []
 frame-count-checks i (r ∷ rs) = frame-count-check i (r .«frame_count») ∷ frame-count-checks (suc i) rs
 
 -- "Order for a list: 4, 6, 7 task by task, then task by task 9, 10, 11,"
-unfoldable pub list-checks : ℕ → ℕ → List Record → List Check
+unfoldable pub list-checks : ℕ → ℕ → List Record → List (Check Refusal)
 list-checks policy n records =
     policy-check policy
     ∷ task-count-check n
@@ -89,5 +96,5 @@ list-checks policy n records =
     ++ task-checks 0 (map task-in records)
 
 -- the answer to a set by value
-unfoldable pub admission : Sheet → Answer
-admission s = outcome (list-checks (s .policy) (s .«task_count») (records-of s))
+unfoldable pub admission : TaskSet → Answer
+admission s = decided (list-checks (s .policy) (s .«task_count») (records-of s))

@@ -6,14 +6,15 @@ use Prim.Native.Nat.{ℕ}
 use lib.ListN.{length, replicate}
 use Rattle.bits.specs.Packed.{value, digits, bits-of, bytes-of}
 use Rattle.check_word.specs.Division.{added, polynomial, divided, remainder, started, check-word, seal, body, sealed}
+use Rattle.lent.specs.Checks.{first-refusal}
 use Rattle.theory.specs.First.{first, every, found}
 use Rattle.theory.specs.Tasks.{Task, frame-count, frame, work, largest, qualifies, start-frame}
 use Rattle.sheet.specs.Constants.{most-tasks, most-frames, greatest-time}
 use Rattle.sheet.specs.Fields.{packed, unpacked, total}
-use Rattle.sheet.specs.Tasks.{record-of, task-in, sheet-with, records-of, blank-sheet}
+use Rattle.sheet.specs.Tasks.{record-of, task-in, set-with, records-of, blank-set}
 use Rattle.sheet.specs.Refusals.{number-of}
 use Rattle.sheet.specs.Layout.{header-in, records-in, frame-count-in, record-width, task-at-start, tasks-in}
-use Rattle.sheet.specs.Admission.{outcome, all, is-time, in-range, well-formed, lock-fits, monotonic, policy-check, task-count-check, frame-count-check, task-checks, frame-count-checks, list-checks, admission}
+use Rattle.sheet.specs.Admission.{decided, known-policy, all, is-time, in-range, well-formed, lock-fits, monotonic, policy-check, task-count-check, frame-count-check, task-checks, frame-count-checks, list-checks, admission}
 use Rattle.sheet.specs.Reading.{some-set, layout-checks, sheet-checks, policy-of, tasks-of, reading-by, reading}
 use Rattle.sheet.specs.Writing.{header-bits, task-bits, tasks-bits, whole-bytes, sheet-of}
 use Rattle.sheet.specs.declared.Answer.{Answer}
@@ -26,15 +27,15 @@ plain T frames = record { period = T; deadline = T; lock = 0; frames = frames }
 
 -- the answer to tasks under policy 0
 pub answer-to : List Task → Answer
-answer-to tasks = admission (sheet-with 0 tasks)
+answer-to tasks = admission (set-with 0 tasks)
 
 -- what an example opens in order to compute
 tasks : Unit {0}
-unfolding first every found frame-count frame work largest qualifies start-frame all is-time in-range well-formed lock-fits monotonic task-checks outcome policy-check task-count-check frame-count-check
+unfolding first every found frame-count frame work largest qualifies start-frame all is-time in-range well-formed lock-fits monotonic task-checks decided first-refusal known-policy policy-check task-count-check frame-count-check
 tasks = tt
 
 lists : Unit {0}
-unfolding tasks answer-to admission list-checks frame-count-checks records-of sheet-with record-of task-in
+unfolding tasks answer-to admission list-checks frame-count-checks records-of set-with record-of task-in
 lists = tt
 
 sheets : Unit {0}
@@ -51,7 +52,7 @@ unfolding body sheet-of seal whole-bytes header-bits tasks-bits task-bits packed
 bytes-of-m = refl
 
 -- M is read as it was written
-pub reading-of-m : reading (sheet-of 0 (plain 10 (3 ∷ []) ∷ [])) ≡ record { answer = Admitted; sheet = sheet-with 0 (plain 10 (3 ∷ []) ∷ []) }
+pub reading-of-m : reading (sheet-of 0 (plain 10 (3 ∷ []) ∷ [])) ≡ record { answer = Admitted; set = set-with 0 (plain 10 (3 ∷ []) ∷ []) }
 unfolding sheets
 reading-of-m = refl
 
@@ -63,7 +64,7 @@ pub answer-to-i : answer-to i ≡ Refused (NotMonotonic 0)
 unfolding lists
 answer-to-i = refl
 
-pub reading-of-i : reading (sheet-of 0 i) ≡ record { answer = Refused (NotMonotonic 0); sheet = blank-sheet }
+pub reading-of-i : reading (sheet-of 0 i) ≡ record { answer = Refused (NotMonotonic 0); set = blank-set }
 unfolding sheets
 reading-of-i = refl
 
@@ -114,6 +115,6 @@ pub size-of-largest : length (sheet-of 0 largest-set) ≡ 452
 unfolding sheets
 size-of-largest = refl
 
-pub reading-of-largest : reading (sheet-of 0 largest-set) ≡ record { answer = Admitted; sheet = sheet-with 0 largest-set }
+pub reading-of-largest : reading (sheet-of 0 largest-set) ≡ record { answer = Admitted; set = set-with 0 largest-set }
 unfolding sheets
 reading-of-largest = refl

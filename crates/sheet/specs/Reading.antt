@@ -9,12 +9,14 @@ use Rattle.check_word.specs.Division.{body, sealed}
 use Rattle.theory.specs.Tasks.{Task}
 use Rattle.sheet.specs.Constants.{the-version, least-size, greatest-size}
 use Rattle.sheet.specs.Fields.{total, fixed-widths}
-use Rattle.sheet.specs.Tasks.{sheet-with, blank-sheet}
+use Rattle.sheet.specs.Tasks.{set-with, blank-set}
 use Rattle.sheet.specs.Layout.{header-in, records-in, frame-count-in, record-width, tasks-in}
-use Rattle.sheet.specs.Admission.{Check, _⇒_, outcome, policy-check, task-count-check, frame-count-check, task-checks}
+use Rattle.lent.specs.Checks.{Check, _⇒_}
+use Rattle.sheet.specs.Admission.{decided, policy-check, task-count-check, frame-count-check, task-checks}
 use Rattle.sheet.specs.declared.Answer.{Answer}
 use Rattle.sheet.specs.declared.Answer.the-variants.{Admitted, Refused}
 use Rattle.sheet.specs.declared.Reading.{Reading}
+use Rattle.sheet.specs.declared.Refusal.{Refusal}
 use Rattle.sheet.specs.declared.Refusal.the-variants.{Length, CheckWord, Version, BitSet, Records}
 
 -- some bit is 1
@@ -24,7 +26,7 @@ some-set (b ∷ bs) = elim b [ true ↦ true | false ↦ some-set bs ]
 
 -- "Then task by task: 8 if the 64 fixed bits are not all there, 7, 8 if its frames are not. Then 8 for bits left, 5 for fill bits."
 -- n records are still to come, the first of them of task i.
-unfoldable pub layout-checks : ℕ → ℕ → List Bool → List Check
+unfoldable pub layout-checks : ℕ → ℕ → List Bool → List (Check Refusal)
 layout-checks i zero bits = (leb 8 (length bits) ⇒ Records) ∷ (some-set bits ⇒ BitSet) ∷ []
 layout-checks i (suc n) bits =
     (ltb (length bits) (total fixed-widths) ⇒ Records)
@@ -33,7 +35,7 @@ layout-checks i (suc n) bits =
     ∷ layout-checks (suc i) n (drop (record-width bits) bits)
 
 -- "Order for a sheet: 1, 2, 3, 4, 5 for header bits, 6. Then task by task .. Then task by task 9, 10, 11."
-unfoldable pub sheet-checks : List ℕ → List Check
+unfoldable pub sheet-checks : List ℕ → List (Check Refusal)
 sheet-checks s =
     let bits = bits-of (body s) in
     let header = header-in bits in
@@ -55,8 +57,8 @@ tasks-of s = let bits = bits-of (body s) in tasks-in (header-in bits .task-count
 
 -- the answer, and beside it the set where the sheet is admitted
 unfoldable pub reading-by : Answer → List ℕ → Reading
-reading-by Admitted s = record { answer = Admitted; sheet = sheet-with (policy-of s) (tasks-of s) }
-reading-by (Refused r) s = record { answer = Refused r; sheet = blank-sheet }
+reading-by Admitted s = record { answer = Admitted; set = set-with (policy-of s) (tasks-of s) }
+reading-by (Refused r) s = record { answer = Refused r; set = blank-set }
 
 unfoldable pub reading : List ℕ → Reading
-reading s = reading-by (outcome (sheet-checks s)) s
+reading s = reading-by (decided (sheet-checks s)) s

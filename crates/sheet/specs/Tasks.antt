@@ -1,11 +1,13 @@
 -- Tasks and the records that hold them: 01, "The workbench holds the set as a lent list of task records".
+use mathlib.Core.Bool.{cond}
 use mathlib.Core.List.{List, [], _∷_, _++_, map}
-use Prim.Native.Nat.{ℕ, _-_}
+use Prim.Native.Nat.{ℕ, suc, _-_}
+use lib.Dec.{ltb}
 use lib.ListN.{length, take, replicate}
 use Rattle.theory.specs.Tasks.{Task}
 use Rattle.sheet.specs.Constants.{most-tasks, most-frames}
 use Rattle.sheet.specs.declared.Task.{Task as Record}
-use Rattle.sheet.specs.declared.Sheet.{Sheet}
+use Rattle.sheet.specs.declared.TaskSet.{TaskSet}
 
 -- "each has room for eight frame times and a frame count. Places past the count are not read,"
 unfoldable pub task-in : Record → Task
@@ -26,13 +28,21 @@ record-of t =
 unfoldable pub blank-record : Record
 blank-record = record { period = 0; deadline = 0; lock = 0; «frame_count» = 0; frames = replicate most-frames 0 }
 
+-- what stands past the end of an array of records: nothing reads it
+abbrev pub no-record : Record
+no-record = record { period = 0; deadline = 0; lock = 0; «frame_count» = 0; frames = [] }
+
+-- the number that follows k in a round of n numbers
+unfoldable pub next-round : ℕ → ℕ → ℕ
+next-round k n = cond (ltb (suc k) n) (suc k) 0
+
 -- the records of a set by value that are in use
-unfoldable pub records-of : Sheet → List Record
+unfoldable pub records-of : TaskSet → List Record
 records-of s = take (s .«task_count») (s .tasks)
 
 -- a policy and tasks as a set by value
-unfoldable pub sheet-with : ℕ → List Task → Sheet
-sheet-with policy tasks =
+unfoldable pub set-with : ℕ → List Task → TaskSet
+set-with policy tasks =
     record {
       policy = policy;
       «task_count» = length tasks;
@@ -40,5 +50,5 @@ sheet-with policy tasks =
     }
 
 -- a set by value with no task
-unfoldable pub blank-sheet : Sheet
-blank-sheet = sheet-with 0 []
+unfoldable pub blank-set : TaskSet
+blank-set = set-with 0 []

@@ -1,9 +1,11 @@
 // The sheet: its constants, stated once, the task record, and the refusals by number.
 ghost use mathlib.Core.Path.{_≡_};
-ghost use Prim.Native.Nat.{min};
+ghost use Prim.Native.Nat.{_<_, _^_, min};
 ghost use lib.ListN.{length};
 ghost use Rattle.sheet.specs.Pairs.{the-widths, the-limits, the-policies};
-ghost use Rattle.sheet.specs.Tasks.{blank-record, blank-sheet};
+ghost use Rattle.sheet.specs.Constants.{most-tasks, most-frames};
+ghost use Rattle.sheet.specs.Tasks.{blank-record, blank-set, next-round};
+ghost use Rattle.sheet.specs.Admission.{known-policy, miscounted};
 ghost use Rattle.sheet.specs.Refusals.{number-of, task-of-refusal};
 
 // A task as the workbench holds it: places of `frames` past `frame_count` are not read, and are 0 when a record is filled.
@@ -16,8 +18,8 @@ pub struct Task {
     pub frames: [u32; 8],
 }
 
-// What a sheet carries: the policy and, of sixteen records, the first `task_count`.
-pub struct Sheet {
+// A set by value, what a sheet carries: the policy and, of sixteen records, the first `task_count`.
+pub struct TaskSet {
     pub policy: u32,
     pub task_count: u32,
     pub tasks: [Task; 16],
@@ -48,6 +50,9 @@ pub struct Policies {
     pub rate_monotonic: u32,
     pub deadline_monotonic: u32,
 }
+
+// The sheet's constants.
+pub struct Sheet;
 
 impl Sheet {
     pub const VERSION_WIDTH: usize = 4;
@@ -116,12 +121,14 @@ impl Sheet {
             deadline_monotonic: Sheet::DEADLINE_MONOTONIC,
         }
     }
+}
 
+impl TaskSet {
     // A set with no task.
-    pub fn blank() -> Sheet
-        ensures { λ r. ⌜ r ≡ blank-sheet ⌝ }
+    pub fn blank() -> TaskSet
+        ensures { λ r. ⌜ r ≡ blank-set ⌝ }
     {
-        Sheet {
+        TaskSet {
             policy: 0,
             task_count: 0,
             tasks: [Task::blank(); 16],
@@ -146,7 +153,7 @@ impl Task {
 
 // How many of a record's frames are in use: no more than there are places.
 pub fn frames_in(count: u32, frames: [u32; 8]) -> usize
-    ensures { λ r. ⌜ (r ≡ min count 8) × (length frames ≡ 8) ⌝ }
+    ensures { λ r. ⌜ (r ≡ min count most-frames) × (length frames ≡ most-frames) ⌝ }
 {
     if count < Sheet::MOST_FRAMES {
         return count as usize;
@@ -156,12 +163,49 @@ pub fn frames_in(count: u32, frames: [u32; 8]) -> usize
 
 // How many of a set's records are in use.
 pub fn tasks_in(count: u32, tasks: [Task; 16]) -> usize
-    ensures { λ r. ⌜ (r ≡ min count 16) × (length tasks ≡ 16) ⌝ }
+    ensures { λ r. ⌜ (r ≡ min count most-tasks) × (length tasks ≡ most-tasks) ⌝ }
 {
     if count < Sheet::MOST_TASKS {
         return count as usize;
     }
     Sheet::MOST_TASKS as usize
+}
+
+// Whether a policy is one of the known.
+pub fn known_policy(policy: u32) -> bool
+    ensures { λ r. ⌜ r ≡ known-policy policy ⌝ }
+{
+    policy <= Sheet::DEADLINE_MONOTONIC
+}
+
+// Whether a count is 0 or over its limit.
+pub fn miscounted(n: u32, most: u32) -> bool
+    ensures { λ r. ⌜ r ≡ miscounted n most ⌝ }
+{
+    if n == 0 {
+        return true;
+    }
+    most < n
+}
+
+// The frame that follows frame k of `count`, going round.
+pub fn next_frame(k: usize, count: usize) -> usize
+    ensures { λ r. ⌜ r ≡ next-round k count ⌝ }
+{
+    if count <= k {
+        return 0;
+    }
+    if count - k == 1 {
+        return 0;
+    }
+    k + 1
+}
+
+// Sums of times are held in 64 bits.
+pub fn wide(x: u32) -> u64
+    ensures { λ r. ⌜ (r ≡ x) × (r < 2 ^ 32) ⌝ }
+{
+    x as u64
 }
 
 // What is turned away, in the order of the numbers 1 to 12; a task number where the number belongs to a task.
@@ -229,7 +273,7 @@ pub enum Answer {
 // What the reader gives: beside a refusal stands a set with no task.
 pub struct Reading {
     pub answer: Answer,
-    pub sheet: Sheet,
+    pub set: TaskSet,
 }
 
 // What the writer gives: how many bytes it wrote, or the refusal.

@@ -13,7 +13,7 @@ use lib.Seq.{take-at}
 use Rattle.theory.specs.Tasks.{Task}
 use Rattle.theory.specs.Analysis.{Verdict, holds, missed, verdict}
 use Rattle.sheet.specs.Refusals.{number-of}
-use Rattle.sheet.specs.Admission.{outcome}
+use Rattle.sheet.specs.Admission.{decided}
 use Rattle.sheet.specs.Reading.{sheet-checks, policy-of, tasks-of}
 use Rattle.sheet.specs.declared.Answer.{Answer}
 use Rattle.sheet.specs.declared.Answer.the-variants.{Admitted}
@@ -56,19 +56,19 @@ module _ (s room : List ℕ) where
   abbrev n : ℕ
   n = length (tasks-of s)
 
-  admits : outcome (sheet-checks s) ≡ Admitted → 4 * (8 * n) ≤ length room → entry-answer s (length room) ≡ Admitted
+  admits : decided (sheet-checks s) ≡ Admitted → 4 * (8 * n) ≤ length room → entry-answer s (length room) ≡ Admitted
   unfolding entry-answer
   admits e h = admitted-first (sheet-checks s) _ e ∙ passed-over _ Room [] (le-ltb (length room) (4 * (8 * n)) h) ∙ none-applies
 
-  lacks : outcome (sheet-checks s) ≡ Admitted → length room < 4 * (8 * n) → entry-answer s (length room) ≡ refused Room
+  lacks : decided (sheet-checks s) ≡ Admitted → length room < 4 * (8 * n) → entry-answer s (length room) ≡ refused Room
   unfolding entry-answer
   lacks e h = admitted-first (sheet-checks s) _ e ∙ applies _ Room [] (lt-ltb (length room) (4 * (8 * n)) h)
 
-  turns : (r : Refusal) → outcome (sheet-checks s) ≡ refused r → entry-answer s (length room) ≡ refused r
+  turns : (r : Refusal) → decided (sheet-checks s) ≡ refused r → entry-answer s (length room) ≡ refused r
   unfolding entry-answer
   turns r e = refused-first (sheet-checks s) _ r e
 
-  done-by : (a : Answer) → outcome (sheet-checks s) ≡ a → 32 * analysis-by a (policy-of s) (tasks-of s) .«task_count» ≤ length room
+  done-by : (a : Answer) → decided (sheet-checks s) ≡ a → 32 * analysis-by a (policy-of s) (tasks-of s) .«task_count» ≤ length room
       → (code (analysis-by a (policy-of s) (tasks-of s) .outcome) ≡ entry-number s room)
       × (four-bytes (take (8 * analysis-by a (policy-of s) (tasks-of s) .«task_count») (analysis-by a (policy-of s) (tasks-of s) .times))
       ++ drop (32 * analysis-by a (policy-of s) (tasks-of s) .«task_count») room ≡ entry-left s room)
@@ -79,13 +79,13 @@ module _ (s room : List ℕ) where
       (refl, refl)
   done-by (refused r) e h = rw (turns r e) (refl, refl)
 
-  short-by : (a : Answer) → outcome (sheet-checks s) ≡ a → length room < 32 * analysis-by a (policy-of s) (tasks-of s) .«task_count»
+  short-by : (a : Answer) → decided (sheet-checks s) ≡ a → length room < 32 * analysis-by a (policy-of s) (tasks-of s) .«task_count»
       → (12 ≡ entry-number s room) × (room ≡ entry-left s room)
   unfolding analysis-by refused-analysis entry-number entry-left outcome-by left-by
   short-by Admitted e h = rw (lacks e (omega arith)) (refl, refl)
   short-by (refused r) e h = let z : ⊥ = omega arith in absurd z
 
-  small-by : (a : Answer) → outcome (sheet-checks s) ≡ a → code (analysis-by a (policy-of s) (tasks-of s) .outcome) < 1000
+  small-by : (a : Answer) → decided (sheet-checks s) ≡ a → code (analysis-by a (policy-of s) (tasks-of s) .outcome) < 1000
   unfolding analysis-by refused-analysis outcome-of
   small-by Admitted e =
       verdict-small n (priority-order (policy-of s) (tasks-of s)) (order-permutes (policy-of s) (tasks-of s)) (by-reading s (reading-answer s ∙ e) .few-tasks)
@@ -97,13 +97,13 @@ module _ (s room : List ℕ) where
       → (code (sheet-analysis s .outcome) ≡ entry-number s room)
       × (four-bytes (take (8 * sheet-analysis s .«task_count») (sheet-analysis s .times)) ++ drop (32 * sheet-analysis s .«task_count») room ≡ entry-left s room)
   unfolding sheet-analysis
-  done h = done-by (outcome (sheet-checks s)) refl h
+  done h = done-by (decided (sheet-checks s)) refl h
 
   -- it is not
   pub short : length room < 32 * sheet-analysis s .«task_count» → (12 ≡ entry-number s room) × (room ≡ entry-left s room)
   unfolding sheet-analysis
-  short h = short-by (outcome (sheet-checks s)) refl h
+  short h = short-by (decided (sheet-checks s)) refl h
 
 pub small : (s : List ℕ) → code (sheet-analysis s .outcome) < 1000
 unfolding sheet-analysis
-small s = small-by s [] (outcome (sheet-checks s)) refl
+small s = small-by s [] (decided (sheet-checks s)) refl

@@ -7,7 +7,8 @@ use lib.ListN.{length, drop}
 use Rattle.bits.specs.Packed.{digits, bytes-of}
 use Rattle.theory.specs.Tasks.{Task}
 use Rattle.sheet.specs.Constants.{most-frames}
-use Rattle.sheet.specs.Admission.{_⇒_, outcome}
+use Rattle.lent.specs.Checks.{_⇒_}
+use Rattle.sheet.specs.Admission.{decided}
 use Rattle.sheet.specs.Reading.{sheet-checks, policy-of, tasks-of}
 use Rattle.sheet.specs.declared.Answer.{Answer}
 use Rattle.sheet.specs.declared.Answer.the-variants.{Admitted, Refused}
@@ -22,7 +23,7 @@ four-bytes (t ∷ ts) = bytes-of 4 (digits 32 t) ++ four-bytes ts
 
 -- the sheet's own refusals, and last 12 if the place is below 32n bytes
 unfoldable pub entry-answer : List ℕ → ℕ → Answer
-entry-answer s room = outcome (sheet-checks s ++ (ltb room (4 * (most-frames * length (tasks-of s))) ⇒ Room) ∷ [])
+entry-answer s room = decided (sheet-checks s ++ (ltb room (4 * (most-frames * length (tasks-of s))) ⇒ Room) ∷ [])
 
 -- the number that the workbench gets
 unfoldable pub entry-number : List ℕ → List ℕ → ℕ

@@ -8,25 +8,26 @@ use borrow.Author.Tests.{not-false}
 use lib.ListN.{length, getD}
 use Rattle.sheet.specs.Constants.{most-tasks, most-frames, deadline-monotonic}
 use Rattle.sheet.specs.Tasks.{task-in, records-of}
-use Rattle.sheet.specs.Admission.{outcome, in-range, well-formed, frame-count-check, frame-count-checks, task-checks, list-checks, admission}
+use Rattle.sheet.specs.Admission.{decided, in-range, well-formed, frame-count-check, frame-count-checks, task-checks, list-checks, admission}
 use Rattle.sheet.specs.declared.Task.{Task as Record}
-use Rattle.sheet.specs.declared.Sheet.{Sheet}
+use Rattle.sheet.specs.declared.TaskSet.{TaskSet}
 use Rattle.sheet.specs.declared.Answer.the-variants.{Admitted}
+use Rattle.sheet.proofs.Checks.{passed, both-passed}
 use Rattle.sheet.proofs.Carried.{by-admission, count-in-use}
-use Rattle.sheet.proofs.Passed.{passed, both-passed, count-passed}
+use Rattle.sheet.proofs.Counts.{count-passed}
 
 -- what the fields of a record in use need
 pub record Ready (r : Record) : Type 0 where
   pub few : r .«frame_count» ≤ most-frames
   pub ranged : in-range (task-in r) ≡ true
 
-counts-in : (k : ℕ) (rs : List Record) → outcome (frame-count-checks k rs) ≡ Admitted → (i : ℕ) (d : Record) → i < length rs → getD rs i d .«frame_count» ≤ most-frames
+counts-in : (k : ℕ) (rs : List Record) → decided (frame-count-checks k rs) ≡ Admitted → (i : ℕ) (d : Record) → i < length rs → getD rs i d .«frame_count» ≤ most-frames
 unfolding frame-count-checks frame-count-check
 counts-in k [] e i d h = let z : ⊥ = omega arith in absurd z
 counts-in k (r ∷ rs) e zero d h = count-passed (r .«frame_count») most-frames (passed _ _ e .0) .1
 counts-in k (r ∷ rs) e (suc i) d h = counts-in (suc k) rs (passed _ _ e .1) i d (omega arith)
 
-ranges-in : (k : ℕ) (rs : List Record) → outcome (task-checks k (map task-in rs)) ≡ Admitted → (i : ℕ) (d : Record) → i < length rs → in-range (task-in (getD rs i d)) ≡ true
+ranges-in : (k : ℕ) (rs : List Record) → decided (task-checks k (map task-in rs)) ≡ Admitted → (i : ℕ) (d : Record) → i < length rs → in-range (task-in (getD rs i d)) ≡ true
 unfolding task-checks
 ranges-in k [] e i d h = let z : ⊥ = omega arith in absurd z
 ranges-in k (r ∷ rs) e zero d h =
@@ -34,14 +35,14 @@ ranges-in k (r ∷ rs) e zero d h =
 ranges-in k (r ∷ rs) e (suc i) d h = ranges-in (suc k) rs (passed _ _ (passed _ _ (passed _ _ e .1) .1) .1) i d (omega arith)
 
 -- an admitted set, whose array has its sixteen places
-module _ (s : Sheet) (e : admission s ≡ Admitted) (long : length (s .tasks) ≡ most-tasks) where
+module _ (s : TaskSet) (e : admission s ≡ Admitted) (long : length (s .tasks) ≡ most-tasks) where
   pub policy-in : s .policy ≤ deadline-monotonic
   policy-in = by-admission s long e .policy-known
 
   pub tasks-in : s .«task_count» ≤ most-tasks
   tasks-in = rw (← count-in-use s long e) (by-admission s long e .few-tasks)
 
-  counts-admitted : outcome (frame-count-checks 0 (records-of s)) ≡ Admitted
+  counts-admitted : decided (frame-count-checks 0 (records-of s)) ≡ Admitted
   unfolding admission list-checks
   counts-admitted = both-passed (frame-count-checks 0 (records-of s)) _ (passed _ _ (passed _ _ e .1) .1) .0
 

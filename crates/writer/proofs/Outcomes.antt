@@ -6,9 +6,10 @@ use borrow.Author.Tests.{lt-ltb}
 use lib.Dec.{ltb}
 use lib.ListN.{length, drop}
 use Rattle.sheet.specs.Tasks.{records-of}
-use Rattle.sheet.specs.Admission.{Check, _⇒_, list-checks, admission}
+use Rattle.lent.specs.Checks.{Check, _⇒_}
+use Rattle.sheet.specs.Admission.{list-checks, admission}
 use Rattle.sheet.specs.Writing.{sheet-bytes, writing, written-by, left-by, written, left}
-use Rattle.sheet.specs.declared.Sheet.{Sheet}
+use Rattle.sheet.specs.declared.TaskSet.{TaskSet}
 use Rattle.sheet.specs.declared.Answer.{Answer}
 use Rattle.sheet.specs.declared.Answer.the-variants.{Admitted, Refused}
 use Rattle.sheet.specs.declared.Refusal.{Refusal}
@@ -17,15 +18,15 @@ use Rattle.sheet.specs.declared.Written.the-variants.{Bytes, TurnedAway}
 use Rattle.sheet.proofs.Checks.{applies, admitted-first, refused-first}
 use Rattle.sheet.proofs.WhatIsWritten.{writing-admits}
 
-module _ (s : Sheet) (room : List ℕ) where
+module _ (s : TaskSet) (room : List ℕ) where
   by-answer : (a : Answer) → writing s (length room) ≡ a → (written-by a s ≡ written s room) × (left-by a s room ≡ left s room)
   unfolding written left
   by-answer a e = (ap (λ (x : Answer). written-by x s) (sym e), ap (λ (x : Answer). left-by x s room) (sym e))
 
-  checks : List Check
+  checks : List (Check Refusal)
   checks = list-checks (s .policy) (s .«task_count») (records-of s)
 
-  room-check : List Check
+  room-check : List (Check Refusal)
   room-check = (ltb (length room) (length (sheet-bytes s)) ⇒ Room) ∷ []
 
   pub refused : (r : Refusal) → admission s ≡ Refused r → (TurnedAway r ≡ written s room) × (room ≡ left s room)

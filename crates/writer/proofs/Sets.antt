@@ -13,7 +13,7 @@ use Rattle.sheet.specs.Tasks.{task-in, records-of}
 use Rattle.sheet.specs.Admission.{admission}
 use Rattle.sheet.specs.Writing.{header-bits, task-bits, tasks-bits, whole-bytes, sheet-of, sheet-bytes}
 use Rattle.sheet.specs.declared.Task.{Task as Record}
-use Rattle.sheet.specs.declared.Sheet.{Sheet}
+use Rattle.sheet.specs.declared.TaskSet.{TaskSet}
 use Rattle.sheet.specs.declared.Answer.the-variants.{Admitted}
 use Rattle.sheet.proofs.Packing.{total-replicate}
 use Rattle.sheet.proofs.RecordBits.{length-header, length-task-bits}
@@ -39,7 +39,7 @@ pub no-records : (rs : List Record) → records-bits (take 0 rs) ≡ []
 unfolding records-bits tasks-bits
 no-records rs = refl
 
-pub records-of-bits : (s : Sheet) → records-bits (records-of s) ≡ tasks-bits (map task-in (records-of s))
+pub records-of-bits : (s : TaskSet) → records-bits (records-of s) ≡ tasks-bits (map task-in (records-of s))
 unfolding records-bits
 records-of-bits s = refl
 
@@ -67,7 +67,7 @@ records-part (r ∷ rs) (suc i) (suc n) d h l =
 
 -- ---- the sheet's length
 
-pub size-is : (s : Sheet) → length (sheet-bytes s) ≡ (16 + length (records-bits (records-of s)) + 7) / 8 + 2
+pub size-is : (s : TaskSet) → length (sheet-bytes s) ≡ (16 + length (records-bits (records-of s)) + 7) / 8 + 2
 unfolding sheet-bytes sheet-of records-bits total
 size-is s =
     let h = header-bits (s .policy) (length (map task-in (records-of s))) in
@@ -76,7 +76,7 @@ size-is s =
     ∙ ap (λ (k : ℕ). k + 2) (length-whole (h ++ r))
     ∙ ap (λ (k : ℕ). (k + 7) / 8 + 2) (length-append h r ∙ ap (λ (k : ℕ). k + length r) (length-header _ _))
 
-module _ (s : Sheet) (e : admission s ≡ Admitted) (long : length (s .tasks) ≡ most-tasks) where
+module _ (s : TaskSet) (e : admission s ≡ Admitted) (long : length (s .tasks) ≡ most-tasks) where
   pub size-most : length (sheet-bytes s) ≤ greatest-size
   size-most = admitted-size s long e .1
 

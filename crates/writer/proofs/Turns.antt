@@ -10,7 +10,7 @@ use Rattle.sheet.specs.Tasks.{task-in, records-of}
 use Rattle.sheet.specs.Admission.{admission}
 use Rattle.sheet.specs.Writing.{task-bits, tasks-bits, sheet-bytes}
 use Rattle.sheet.specs.declared.Task.{Task as Record}
-use Rattle.sheet.specs.declared.Sheet.{Sheet}
+use Rattle.sheet.specs.declared.TaskSet.{TaskSet}
 use Rattle.sheet.specs.declared.Answer.the-variants.{Admitted}
 use Rattle.writer.specs.Put.{Space, Put}
 use Rattle.writer.proofs.Puts.{put-none, put-behind, space-behind, space-less}
@@ -18,7 +18,7 @@ use Rattle.writer.proofs.Admitted.{Ready, ready, tasks-in}
 use Rattle.writer.proofs.Sets.{records-bits, no-records, records-of-bits, record-more, records-part, bits-most, size-is}
 
 -- an admitted set, whose array has its sixteen places
-module _ (s : Sheet) (e : admission s ≡ Admitted) (long : length (s .tasks) ≡ most-tasks) where
+module _ (s : TaskSet) (e : admission s ≡ Admitted) (long : length (s .tasks) ≡ most-tasks) where
   pub in-use : s .«task_count» ≤ length (s .tasks)
   in-use = rw long (tasks-in s e long)
 
@@ -33,15 +33,15 @@ module _ (s : Sheet) (e : admission s ≡ Admitted) (long : length (s .tasks) �
   part-at i d h = records-part (s .tasks) i (s .«task_count») d h in-use
 
 -- the first i records stand at their place
-pub record Stand (b : List ℕ) (at : ℕ) (s : Sheet) (i : ℕ) (t : List ℕ) (next : ℕ) : Type 0 where
+pub record Stand (b : List ℕ) (at : ℕ) (s : TaskSet) (i : ℕ) (t : List ℕ) (next : ℕ) : Type 0 where
   pub put : Put b at (records-bits (take i (s .tasks))) t next
   pub in-row : i ≤ s .«task_count»
   pub same : length t ≡ length b
 
-pub stand-none : (b : List ℕ) (at : ℕ) (s : Sheet) → Stand b at s 0 b at
+pub stand-none : (b : List ℕ) (at : ℕ) (s : TaskSet) → Stand b at s 0 b at
 stand-none b at s = record { put = rw (no-records (s .tasks)) (put-none b at); in-row = omega arith; same = refl }
 
-module _ (s : Sheet) (e : admission s ≡ Admitted) (long : length (s .tasks) ≡ most-tasks)
+module _ (s : TaskSet) (e : admission s ≡ Admitted) (long : length (s .tasks) ≡ most-tasks)
     {b : List ℕ} {at : ℕ} (room : Space b at (length (tasks-bits (map task-in (records-of s))))) where
   module _ {i : ℕ} {t : List ℕ} {next : ℕ} (p : Stand b at s i t next) (d : Record) (h : i < s .«task_count») where
     space : Space b at (length (records-bits (take i (s .tasks))) + length (task-bits (task-in (getD (s .tasks) i d))))
@@ -60,21 +60,21 @@ module _ (s : Sheet) (e : admission s ≡ Admitted) (long : length (s .tasks) �
           same = l ∙ p .same;
         }
 
-pub stand-all : {b t : List ℕ} {at i next : ℕ} (s : Sheet) → Stand b at s i t next → s .«task_count» ≤ i → Put b at (tasks-bits (map task-in (records-of s))) t next
+pub stand-all : {b t : List ℕ} {at i next : ℕ} (s : TaskSet) → Stand b at s i t next → s .«task_count» ≤ i → Put b at (tasks-bits (map task-in (records-of s))) t next
 unfolding records-of
 stand-all {i = i} s p h =
     let e : i ≡ s .«task_count» = omega (arith, p .in-row) in
     rw (← records-of-bits s, ← e) (p .put)
 
 -- the header's bits and those of the first i records are counted
-pub record Counted (s : Sheet) (i bits : ℕ) : Type 0 where
+pub record Counted (s : TaskSet) (i bits : ℕ) : Type 0 where
   pub sum : bits ≡ 16 + length (records-bits (take i (s .tasks)))
   pub in-row : i ≤ s .«task_count»
 
-pub counted-none : (s : Sheet) → Counted s 0 16
+pub counted-none : (s : TaskSet) → Counted s 0 16
 counted-none s = record { sum = rw (no-records (s .tasks)) refl; in-row = omega arith }
 
-module _ (s : Sheet) (e : admission s ≡ Admitted) (long : length (s .tasks) ≡ most-tasks) {i bits : ℕ} (p : Counted s i bits) (d : Record) (h : i < s .«task_count») (w : ℕ)
+module _ (s : TaskSet) (e : admission s ≡ Admitted) (long : length (s .tasks) ≡ most-tasks) {i bits : ℕ} (p : Counted s i bits) (d : Record) (h : i < s .«task_count») (w : ℕ)
     (is : w ≡ length (task-bits (task-in (getD (s .tasks) i d)))) where
   pub counted-small : bits + w ≤ 3600
   counted-small = omega (arith, p .sum, is, part-at s e long i d h, bits-most s e long)
@@ -88,7 +88,7 @@ module _ (s : Sheet) (e : admission s ≡ Admitted) (long : length (s .tasks) �
         in-row = omega arith;
       }
 
-module _ (s : Sheet) {i bits : ℕ} (p : Counted s i bits) (h : s .«task_count» ≤ i) where
+module _ (s : TaskSet) {i bits : ℕ} (p : Counted s i bits) (h : s .«task_count» ≤ i) where
   pub counted-all : bits ≡ 16 + length (records-bits (records-of s))
   unfolding records-of
   counted-all = let e : i ≡ s .«task_count» = omega (arith, p .in-row) in rw (← e) (p .sum)

@@ -15,7 +15,7 @@ use Rattle.sheet.specs.Constants.{most-tasks}
 use Rattle.sheet.specs.Tasks.{task-in, records-of}
 use Rattle.sheet.specs.Admission.{admission}
 use Rattle.sheet.specs.Writing.{header-bits, tasks-bits, whole-bytes, sheet-of, sheet-bytes}
-use Rattle.sheet.specs.declared.Sheet.{Sheet}
+use Rattle.sheet.specs.declared.TaskSet.{TaskSet}
 use Rattle.sheet.specs.declared.Answer.the-variants.{Admitted}
 use Rattle.sheet.proofs.Carried.{count-in-use}
 use Rattle.sheet.proofs.Sizes.{length-whole}
@@ -56,13 +56,13 @@ sealed-whole f t bytes e bits =
 -- ---- the sheet of an admitted set, put into as many bytes as it has
 
 -- the bits of a set's header and of its records
-abbrev pub header-row : Sheet → List Bool
+abbrev pub header-row : TaskSet → List Bool
 header-row s = header-bits (s .policy) (s .«task_count»)
 
-abbrev pub records-row : Sheet → List Bool
+abbrev pub records-row : TaskSet → List Bool
 records-row s = tasks-bits (map task-in (records-of s))
 
-module _ (s : Sheet) (e : admission s ≡ Admitted) (long : length (s .tasks) ≡ most-tasks) where
+module _ (s : TaskSet) (e : admission s ≡ Admitted) (long : length (s .tasks) ≡ most-tasks) where
   -- these two for this set
   abbrev H : List Bool
   H = header-row s

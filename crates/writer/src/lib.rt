@@ -16,6 +16,7 @@ use sheet::Answer;
 use sheet::Refusal;
 use sheet::Sheet;
 use sheet::Task;
+use sheet::TaskSet;
 use sheet::Written;
 
 // The bytes of the check word.
@@ -78,14 +79,14 @@ fn put_task(bytes: &mut [u8], at: usize, task: Task) -> usize
 }
 
 // The task records one after another.
-fn put_tasks(bytes: &mut [u8], at: usize, sheet: Sheet) -> usize
-    requires { ⌜ (admission sheet ≡ Admitted) × Space (now bytes) at (length (tasks-bits (map task-in (records-of sheet)))) ⌝ }
-    ensures { λ r. ⌜ Put (now (bytes .entry)) at (tasks-bits (map task-in (records-of sheet))) (now (bytes .exit)) r ⌝ }
+fn put_tasks(bytes: &mut [u8], at: usize, set: TaskSet) -> usize
+    requires { ⌜ (admission set ≡ Admitted) × Space (now bytes) at (length (tasks-bits (map task-in (records-of set)))) ⌝ }
+    ensures { λ r. ⌜ Put (now (bytes .entry)) at (tasks-bits (map task-in (records-of set))) (now (bytes .exit)) r ⌝ }
 {
-    let count = sheet.task_count as usize;
+    let count = set.task_count as usize;
     let mut next = at;
     for i in 0..count {
-        let task = sheet.tasks[i];
+        let task = set.tasks[i];
         next = put_task(bytes, next, task);
     }
     next
@@ -101,17 +102,17 @@ fn task_width(task: Task) -> usize
 }
 
 // How many bytes the sheet of a set takes.
-fn sheet_size(sheet: Sheet) -> usize
-    requires { ⌜ admission sheet ≡ Admitted ⌝ }
-    ensures { λ r. ⌜ r ≡ length (sheet-bytes sheet) ⌝ }
+fn sheet_size(set: TaskSet) -> usize
+    requires { ⌜ admission set ≡ Admitted ⌝ }
+    ensures { λ r. ⌜ r ≡ length (sheet-bytes set) ⌝ }
 {
-    let count = sheet.task_count as usize;
+    let count = set.task_count as usize;
     let mut bits = Sheet::VERSION_WIDTH
         + Sheet::POLICY_WIDTH
         + Sheet::TASK_COUNT_WIDTH
         + Sheet::SPARE_WIDTH;
     for i in 0..count {
-        let task = sheet.tasks[i];
+        let task = set.tasks[i];
         bits += task_width(task);
     }
     (bits + 7) / 8 + CHECK_WORD_SIZE
@@ -127,28 +128,28 @@ fn fill(bytes: &mut [u8], from: usize) -> usize
 }
 
 // The whole sheet into as many bytes as it has: header, task records, zero bits, check word.
-fn put_sheet(bytes: &mut [u8], sheet: Sheet)
-    requires { ⌜ (admission sheet ≡ Admitted) × (length (now bytes) ≡ length (sheet-bytes sheet)) ⌝ }
-    ensures { λ _. ⌜ now (bytes .exit) ≡ sheet-bytes sheet ⌝ }
+fn put_sheet(bytes: &mut [u8], set: TaskSet)
+    requires { ⌜ (admission set ≡ Admitted) × (length (now bytes) ≡ length (sheet-bytes set)) ⌝ }
+    ensures { λ _. ⌜ now (bytes .exit) ≡ sheet-bytes set ⌝ }
 {
-    let at = put_header(bytes, sheet.policy, sheet.task_count);
-    let end = put_tasks(bytes, at, sheet);
+    let at = put_header(bytes, set.policy, set.task_count);
+    let end = put_tasks(bytes, at, set);
     fill(bytes, end);
     check_word::seal(bytes);
 }
 
 // The sheet of a set goes into the first of the lent bytes; the answer is how many, or the one refusal, and then nothing is touched.
-pub fn write_sheet(sheet: Sheet, bytes: &mut [u8]) -> Written
-    ensures { λ r. ⌜ (r ≡ written sheet (now (bytes .entry))) × (now (bytes .exit) ≡ left sheet (now (bytes .entry))) ⌝ }
+pub fn write_sheet(set: TaskSet, bytes: &mut [u8]) -> Written
+    ensures { λ r. ⌜ (r ≡ written set (now (bytes .entry))) × (now (bytes .exit) ≡ left set (now (bytes .entry))) ⌝ }
 {
-    let answer = admission::admit(sheet);
+    let answer = admission::admit(set);
     if let Answer::Refused(refusal) = answer {
         return Written::TurnedAway(refusal);
     }
-    let size = sheet_size(sheet);
+    let size = sheet_size(set);
     if bytes.len() < size {
         return Written::TurnedAway(Refusal::Room);
     }
-    put_sheet(&mut bytes[..size], sheet);
+    put_sheet(&mut bytes[..size], set);
     Written::Bytes(size)
 }

@@ -37,7 +37,7 @@ returns : tie.Need-returns
 returns c =
     let e = c .before .before .before .before .read-sheet .ensures in
     c .analysed .ensures
-    ∙ ap (λ (r : Reading). analysis-by Admitted (r .sheet .policy) (map task-in (records-of (r .sheet)))) e
+    ∙ ap (λ (r : Reading). analysis-by Admitted (r .set .policy) (map task-in (records-of (r .set)))) e
     ∙ sheet-admitted _ (ap (λ (r : Reading). r .answer) (sym e) ∙ c .before .enum-told .given .1)
 
 returns-2 : tie.Need-returns-2

@@ -32,7 +32,7 @@ returns c =
     let room = now (a .times) in
     let e = c .before .before .before .before .analyse .ensures in
     let d = c .before .before .deliver .ensures in
-    let s = set-delivered (a .sheet) room (c .before .before .before .before .before .tasks-in .ensures .1) in
+    let s = set-delivered (a .set) room (c .before .before .before .before .before .tasks-in .ensures .1) in
     (d .0 ∙ ap (λ (x : Analysis). delivered-outcome x (length room)) e ∙ s .0, d .1 ∙ ap (λ (x : Analysis). delivered x room) e ∙ s .1)
 
 pub analyse-set-spec : {M : Type 1} → statement M

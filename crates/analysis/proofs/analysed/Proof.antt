@@ -35,7 +35,7 @@ cast-t8 c = search needs
 
 returns : tie.Need-returns
 returns c =
-    let s = c .before .before .before .before .before .before .args .sheet in
+    let s = c .before .before .before .before .before .before .args .set in
     let n = c .before .before .before .before .tasks-in .ensures in
     analysis-is s (n .1) (c .before .before .before .before .before .before .pre) _ _ _ _ (c .before .before .before .in-order .ensures)
     (c .before .verdict-of .ensures) (n .0 ∙ sym (records-length s ∙ ap (min (s .«task_count»)) (n .1))) (c .all-times .ensures)

@@ -45,13 +45,13 @@ use denote.Triple.Statement.{Contract, Triple}
 use denote.Triple.Table.{entered, cited}
 use denote.Triple.Walked.{says, Stays, stay-dropped, walkOf, goes-dropped, Walks, ends-at, walked, walk-meets}
 use Rattle.sheet.specs.declared.Task.{Task}
-use Rattle.sheet.specs.declared.Sheet.{Sheet}
+use Rattle.sheet.specs.declared.TaskSet.{TaskSet}
 use Rattle.sheet.proofs.Task as T
-use Rattle.sheet.proofs.Sheet as S
+use Rattle.sheet.proofs.TaskSet as S
 use Rattle.lists.specs.Lists.{gathered-of}
 use Rattle.lists.specs.Parts.{no-record, opened-of, with-record as with-record-of}
 use Rattle.lists.proofs.Laws.{part, part-none, part-more, part-all}
-use Rattle.lists.proofs.Records.{task-val, sheet-val, IsSheet, task-tells, sheet-tells, task-makes, sheet-makes, task-typed, sheet-typed, task-copy}
+use Rattle.lists.proofs.Records.{task-val, set-val, IsSet, task-tells, set-tells, task-makes, set-makes, task-typed, set-typed, task-copy}
 use Rattle.lists.proofs.Walk.{tests, calls-value}
 use Rattle.lists.proofs.to_copy as to-copy
 use Rattle.lists.proofs.to_copy.Symbol as to-copy-def
@@ -81,8 +81,8 @@ word = tyInt w64
 abbrev τTask : Ty
 τTask = spell body.table (pointee (T.the-row .written))
 
-abbrev τSheet : Ty
-τSheet = spell body.table (pointee (S.the-row .written))
+abbrev τTaskSet : Ty
+τTaskSet = spell body.table (pointee (S.the-row .written))
 
 abbrev τList : Ty
 τList = sliceTy (tyRef (named 0) imm (pointee (T.the-row .written)))
@@ -117,10 +117,10 @@ module _ {M : Type 1} (𝓤 : URA M) (H : Heap 𝓤) (A : Atoms 𝓤) (W : Given
   abbrev Post : Val → SProp 𝓤
   Post = walkOf 𝓤 H A gathered.ended stayed (gathered.clauses 𝓤 H A mem run) .post bound
 
-  exits : (r : Sheet) → r ≡ gathered-of policy ys → IsSheet r → ent 𝓤 (⋆ 𝓤 H A (‵ (flft κ q) ∷ [])) (Post (sheet-val r))
+  exits : (r : TaskSet) → r ≡ gathered-of policy ys → IsSet r → ent 𝓤 (⋆ 𝓤 H A (‵ (flft κ q) ∷ [])) (Post (set-val r))
   exits r e is =
-      qed W (‵ (flft κ q) ∷ []) ∵ suffices ! _ (ends-at 𝓤 H A gathered.ended stayed (gathered.clauses 𝓤 H A mem run) W bound (sheet-val r) r (tt, (tt, tt)) (tt, (tt, tt))) $ says ! e $
-      nothing ! $ move ! (1 ∷ 0 ∷ []) $ join ! $ frame ! $ owned ! S.the-row (Is S.the-row) (sheet-makes 𝓤 H A) r _ is $
+      qed W (‵ (flft κ q) ∷ []) ∵ suffices ! _ (ends-at 𝓤 H A gathered.ended stayed (gathered.clauses 𝓤 H A mem run) W bound (set-val r) r (tt, (tt, tt)) (tt, (tt, tt))) $ says ! e $
+      nothing ! $ move ! (1 ∷ 0 ∷ []) $ join ! $ frame ! $ owned ! S.the-row (Is S.the-row) (set-makes 𝓤 H A) r _ is $
       nothing ! $ nothing ! $ fjoin ! $ nothing ! $ fjoin ! $ frame ! $ done !
 
   -- how many records go
@@ -128,7 +128,7 @@ module _ {M : Type 1} (𝓤 : URA M) (H : Heap 𝓤) (A : Atoms 𝓤) (W : Given
   m = min (length ys) 16
 
   abbrev Upto : Type 0
-  Upto = (i : ℕ) × (i ≤ m) × IsSheet (part policy ys i)
+  Upto = (i : ℕ) × (i ≤ m) × IsSet (part policy ys i)
 
   abbrev Nearer : Upto → Upto → Type 0
   Nearer j i = m - j .0 < m - i .0
@@ -144,15 +144,15 @@ module _ {M : Type 1} (𝓤 : URA M) (H : Heap 𝓤) (A : Atoms 𝓤) (W : Given
     Λ = 𝓣 .Λ
 
     abbrev En : Env 𝓤 H
-    En = (τSheet, l₀) ∷ (tyInt w32, l₁) ∷ (τList, l₂) ∷ (word, l₃) ∷ (word, l₄) ∷ (τSheet, l₅) ∷ (word, l₆) ∷ (tyBool, l₇) ∷ (word, l₈) ∷ (tyPtr, l₉) ∷ (τTask, l₁₀) ∷ []
+    En = (τTaskSet, l₀) ∷ (tyInt w32, l₁) ∷ (τList, l₂) ∷ (word, l₃) ∷ (word, l₄) ∷ (τTaskSet, l₅) ∷ (word, l₆) ∷ (tyBool, l₇) ∷ (word, l₈) ∷ (tyPtr, l₉) ∷ (τTask, l₁₀) ∷ []
 
     -- [_10; …; _9; …; _8; …; _7; …; i; …; set; …; count; …; n; …; list; …; policy; …; room for the result; …; the token; the list's borrow]
     abbrev At : Upto → List (Item 𝓤)
     At i =
         ‵ (froom τTask l₁₀ 0) ∷ ‵ (fdies τTask l₁₀) ∷ ‵ (froom tyPtr l₉ 0) ∷ ‵ (fdies tyPtr l₉) ∷ ‵ (froom word l₈ 0) ∷ ‵ (fdies word l₈) ∷ ‵ (froom tyBool l₇ 0) ∷ ‵ (fdies tyBool l₇)
-        ∷ ‵ (fat fullShare word l₆ 0 (vint w64 (i .0))) ∷ ‵ (fdies word l₆) ∷ ‵ (fat fullShare τSheet l₅ 0 (sheet-val (part policy ys (i .0)))) ∷ ‵ (fdies τSheet l₅)
+        ∷ ‵ (fat fullShare word l₆ 0 (vint w64 (i .0))) ∷ ‵ (fdies word l₆) ∷ ‵ (fat fullShare τTaskSet l₅ 0 (set-val (part policy ys (i .0)))) ∷ ‵ (fdies τTaskSet l₅)
         ∷ ‵ (fat fullShare word l₄ 0 (vint w64 m)) ∷ ‵ (fdies word l₄) ∷ ‵ (fat fullShare word l₃ 0 (vint w64 (length ys))) ∷ ‵ (fdies word l₃)
-        ∷ ‵ (fat fullShare τList l₂ 0 s) ∷ ‵ (fdies τList l₂) ∷ ‵ (fat fullShare (tyInt w32) l₁ 0 (vint w32 policy)) ∷ ‵ (fdies (tyInt w32) l₁) ∷ ‵ (froom τSheet l₀ 0) ∷ ‵ (fdies τSheet l₀)
+        ∷ ‵ (fat fullShare τList l₂ 0 s) ∷ ‵ (fdies τList l₂) ∷ ‵ (fat fullShare (tyInt w32) l₁ 0 (vint w32 policy)) ∷ ‵ (fdies (tyInt w32) l₁) ∷ ‵ (froom τTaskSet l₀ 0) ∷ ‵ (fdies τTaskSet l₀)
         ∷ ‵ (flft κ q) ∷ ‵ (fshr-bor κ (λ z. arr-parts (shares T.the-row) (length ys) .part z ys b o)) ∷ []
 
     abbrev Turned : Upto → Out → SProp 𝓤
@@ -175,19 +175,19 @@ module _ {M : Type 1} (𝓤 : URA M) (H : Heap 𝓤) (A : Atoms 𝓤) (W : Given
         elem-back ! T.the-row q′ ys (i .0) no-record (task-val (record-i) ∷ []) b o (in-list less) $ shuts-slice ! tt T.the-row q′ ys b o $
         -- [the token; the list's borrow; _10; …]
         calls-value ! fm with-record.ended (with-record.clauses 𝓤 H A mem run) known-record
-        (tt, tt, tt, (part policy ys (i .0), (i .0, (record-i, tt))), (sheet-val (part policy ys (i .0)) ∷ [], (vint w64 (i .0) ∷ [], (task-val record-i ∷ [], tt)))) tt
+        (tt, tt, tt, (part policy ys (i .0), (i .0, (record-i, tt))), (set-val (part policy ys (i .0)) ∷ [], (vint w64 (i .0) ∷ [], (task-val record-i ∷ [], tt)))) tt
         (factI 𝓤 (i .0 < 16) (emp 𝓤) (in-set less)) (id⊢ 𝓤 _)
-        (sheet-makes 𝓤 H A, (uint-makes 𝓤 H A W w64, (task-makes 𝓤 H A, tt))) (i .2, ((refl, fits i), (is, tt)))
+        (set-makes 𝓤 H A, (uint-makes 𝓤 H A W w64, (task-makes 𝓤 H A, tt))) (i .2, ((refl, fits i), (is, tt)))
         (λ r. r ≡ with-record-of (part policy ys (i .0)) (i .0) record-i) (λ r ws. id⊢ 𝓤 _) (part policy ys (i .0 + 1)) (λ r e. e ∙ part-more policy ys (i .0) no-record (in-list less) (in-set less))
-        sheet-val sheet-tells
+        set-val set-tells
         (and-then ! (load ! (from ! (stop !)) (look ! 13 refl)) (and-then ! (load ! (from ! (stop !)) (look ! 11 refl)) (and-then ! (load ! (from ! (stop !)) (look ! 3 refl)) (no-more !)))) (λ is′.
-        land ! (from ! (stop !)) (store ! 12 refl (sheet-typed 𝓤 H A W (part policy ys (i .0 + 1)) is′ .0)) $
+        land ! (from ! (stop !)) (store ! 12 refl (set-typed 𝓤 H A W (part policy ys (i .0 + 1)) is′ .0)) $
         assigns-last ! (bin ! (load ! (from ! (stop !)) (look ! 10 refl)) (lit ! tt) (record { fits = next-fits less })) (from ! (stop !)) (store ! 10 refl (tt, record { fits = next-fits less })) $
         forget ! 2 refl $ forget ! 4 refl $ forget ! 6 refl $ forget ! 8 refl $
         move ! (2 ∷ 3 ∷ 4 ∷ 5 ∷ 6 ∷ 7 ∷ 8 ∷ 9 ∷ 10 ∷ 11 ∷ 12 ∷ 13 ∷ 14 ∷ 15 ∷ 16 ∷ 17 ∷ 18 ∷ 19 ∷ 20 ∷ 21 ∷ 22 ∷ 23 ∷ []) $
         again ! Nearer At i (i .0 + 1, add-one-le (ltb→lt (i .0) m less), is′) (add-one-dec m (i .0) (ltb→lt (i .0) m less))))))
         (λ over. exec ! C Λ En body.t-6 (atRet En Post) $
-        assigns ! (of-opd ! (load ! (from ! (stop !)) (look ! 10 refl))) (from ! (stop !)) (init ! 20 refl (sheet-typed 𝓤 H A W (part policy ys (i .0)) (i .2) .0)) $
+        assigns ! (of-opd ! (load ! (from ! (stop !)) (look ! 10 refl))) (from ! (stop !)) (init ! 20 refl (set-typed 𝓤 H A W (part policy ys (i .0)) (i .2) .0)) $
         returns ! (look ! 20 refl) $ forget ! 6 refl $ forget ! 8 refl $ forget ! 10 refl $ forget ! 12 refl $ forget ! 14 refl $ forget ! 16 refl $ forget ! 18 refl $ forget ! 20 refl $
         move ! (20 ∷ 21 ∷ []) $ free1 ! $ move ! (18 ∷ 19 ∷ []) $ free1 ! $ move ! (16 ∷ 17 ∷ []) $ free1 ! $ move ! (14 ∷ 15 ∷ []) $ free1 ! $ move ! (12 ∷ 13 ∷ []) $ free1 ! $ move ! (10 ∷ 11 ∷ []) $ free1 ! $
         move ! (8 ∷ 9 ∷ []) $ free1 ! $ move ! (6 ∷ 7 ∷ []) $ free1 ! $ move ! (4 ∷ 5 ∷ []) $ free1 ! $ move ! (2 ∷ 3 ∷ []) $ free1 ! $ free1 ! $ free0 ! $
@@ -226,8 +226,8 @@ module _ {M : Type 1} (𝓤 : URA M) (H : Heap 𝓤) (A : Atoms 𝓤) (W : Given
       land ! (from ! (stop !)) (init ! 12 refl (tt, record { fits = is .1 })) $
       calls-value ! (fmOf 𝓤 H (W .laws) 𝓣) opened.ended (opened.clauses 𝓤 H A mem run) known-opened (tt, tt, tt, (policy, (length ys, tt)), (vint w32 policy ∷ [], (vint w64 (length ys) ∷ [], tt))) tt (id⊢ 𝓤 _) (id⊢ 𝓤 _)
       (uint-makes 𝓤 H A W w32, (uint-makes 𝓤 H A W w64, tt)) ((refl, policy-fits), ((refl, room .0), tt)) (λ r. r ≡ opened-of policy (length ys)) (λ r ws. id⊢ 𝓤 _) (part policy ys 0) (λ r e. e ∙ part-none policy ys)
-      sheet-val sheet-tells (and-then ! (load ! (from ! (stop !)) (look ! 19 refl)) (and-then ! (load ! (from ! (stop !)) (look ! 15 refl)) (no-more !))) (λ is′.
-      land ! (from ! (stop !)) (init ! 10 refl (sheet-typed 𝓤 H A W (part policy ys 0) is′ .0)) $
+      set-val set-tells (and-then ! (load ! (from ! (stop !)) (look ! 19 refl)) (and-then ! (load ! (from ! (stop !)) (look ! 15 refl)) (no-more !))) (λ is′.
+      land ! (from ! (stop !)) (init ! 10 refl (set-typed 𝓤 H A W (part policy ys 0) is′ .0)) $
       assigns ! (of-opd ! (lit ! tt)) (from ! (stop !)) (init ! 8 refl (tt, record { fits = lit< tt })) $
       -- [_10; …; room for _0; …; the token; what policy and list own]
       move ! (23 ∷ []) $ fsplit ! $ drop ! $ fsplit ! $ fsplit ! $ move ! (1 ∷ []) $ fsplit ! $

@@ -35,16 +35,16 @@ use denote.Triple.Table.{entered, cited}
 use denote.Triple.Walked.{says, Stays, stay-dropped, gave-slice, walkOf, goes-dropped, goes-gave-slice, Walks, ends-at, walked, walk-meets}
 use Rattle.sheet.specs.Reading.{reading}
 use Rattle.sheet.specs.declared.Reading.{Reading}
-use Rattle.sheet.specs.declared.Sheet.{Sheet}
+use Rattle.sheet.specs.declared.TaskSet.{TaskSet}
 use Rattle.sheet.specs.declared.Task.{Task}
 use Rattle.sheet.proofs.Task as T
-use Rattle.sheet.proofs.Sheet as S
+use Rattle.sheet.proofs.TaskSet as S
 use Rattle.lists.specs.declared.ListRead.{ListRead}
 use Rattle.lists.specs.Lists.{scattered-of}
 use Rattle.lists.specs.Parts.{answer-to}
 use Rattle.lists.proofs.ListRead as Lr
 use Rattle.lists.proofs.Faces.{read-list-is, filled-is}
-use Rattle.lists.proofs.Records.{sheet-val, sheet-tells, sheet-makes, sheet-typed, reading-val, reading-tells, reading-makes, reading-typed, list-read-val, list-read-tells, list-read-makes, list-read-typed}
+use Rattle.lists.proofs.Records.{set-val, set-tells, set-makes, set-typed, reading-val, reading-tells, reading-makes, reading-typed, list-read-val, list-read-tells, list-read-makes, list-read-typed}
 use Rattle.lists.proofs.Walk.{calls-told, calls-value}
 use Rattle.reader.proofs.read_sheet as read-sheet
 use Rattle.reader.proofs.read_sheet.Symbol as read-sheet-def
@@ -111,8 +111,8 @@ module _ {M : Type 1} (𝓤 : URA M) (H : Heap 𝓤) (A : Atoms 𝓤) (W : Given
   abbrev r : Reading
   r = reading (x .now)
 
-  abbrev d : Sheet
-  d = r .sheet
+  abbrev d : TaskSet
+  d = r .set
 
   abbrev w : ListRead
   w = answer-to r (length (y .now))
@@ -142,15 +142,15 @@ module _ {M : Type 1} (𝓤 : URA M) (H : Heap 𝓤) (A : Atoms 𝓤) (W : Given
       (λ z ws. z ≡ r) (λ z ws. id⊢ 𝓤 _) r (λ z ws e. e) reading-val reading-tells (and-then ! (load ! (from ! (stop !)) (look ! 17 refl)) (no-more !)) (λ _ _ is-r.
       land ! (from ! (stop !)) (init ! 14 refl (reading-typed 𝓤 H A W r is-r .0)) $
       calls-value ! (fmOf 𝓤 H (W .laws) 𝓣) set-in.ended (set-in.clauses 𝓤 H A mem run) known-set (tt, tt, tt, (r, tt), (reading-val r ∷ [], tt)) tt (id⊢ 𝓤 _) (id⊢ 𝓤 _) (reading-makes 𝓤 H A, tt) (is-r, tt)
-      (λ z. z ≡ d) (λ z ws. id⊢ 𝓤 _) d (λ z e. e) sheet-val sheet-tells (and-then ! (load ! (from ! (stop !)) (look ! 15 refl)) (no-more !)) (λ is-d.
-      land ! (from ! (stop !)) (init ! 10 refl (sheet-typed 𝓤 H A W d is-d .0)) $
+      (λ z. z ≡ d) (λ z ws. id⊢ 𝓤 _) d (λ z e. e) set-val set-tells (and-then ! (load ! (from ! (stop !)) (look ! 15 refl)) (no-more !)) (λ is-d.
+      land ! (from ! (stop !)) (init ! 10 refl (set-typed 𝓤 H A W d is-d .0)) $
       assigns ! (addr ! (from ! (fld ! refl (hop ! (look-in ! 16 (sub ! 0 refl (whole !))) (stop !))))) (from ! (stop !)) (init ! 8 refl (tt, tt)) $
       assigns ! (agg ! (and-then ! (load ! (from ! (stop !)) (look ! 8 refl)) (and-then ! (load ! (from ! (fld ! refl (stop !))) (look-in ! 16 (sub ! 1 refl (whole !)))) (no-more !)))) (from ! (stop !)) (init ! 6 refl (tt, (tt, (record { fits = room′ .0 }, tt)))) $
       -- [sheet's token; true; the list's token; what list owns; _8; …]
-      use1 W (‵ (flft κ q) ⊛ ‵ ftrue) (id⊢ 𝓤 _) $ move ! (3 ∷ []) $ nothing ! $ move ! (1 ∷ 0 ∷ []) $ fjoin ! $ owned ! S.the-row (Is S.the-row) (sheet-makes 𝓤 H A) d (sheet-val d ∷ []) is-d $ fjoin ! $
+      use1 W (‵ (flft κ q) ⊛ ‵ ftrue) (id⊢ 𝓤 _) $ move ! (3 ∷ []) $ nothing ! $ move ! (1 ∷ 0 ∷ []) $ fjoin ! $ owned ! S.the-row (Is S.the-row) (set-makes 𝓤 H A) d (set-val d ∷ []) is-d $ fjoin ! $
       move ! (3 ∷ 0 ∷ []) $ use1 W (raw (alive 𝓤 H A scattered.signature (κ′, tt) (q′, tt))) (id⊢ 𝓤 _) $
       -- [the list's token; what the set and list own; sheet's token; true; _8; …]
-      calls-told ! (fmOf 𝓤 H (W .laws) 𝓣) scattered.ended (scattered.clauses 𝓤 H A mem run) known-scattered ((κ′, tt), (q′, tt), tt, (d, (y, tt)), (sheet-val d ∷ [], (s′ ∷ [], tt))) tt (id⊢ 𝓤 _)
+      calls-told ! (fmOf 𝓤 H (W .laws) 𝓣) scattered.ended (scattered.clauses 𝓤 H A mem run) known-scattered ((κ′, tt), (q′, tt), tt, (d, (y, tt)), (set-val d ∷ [], (s′ ∷ [], tt))) tt (id⊢ 𝓤 _)
       (λ z ws. ws .1 .0 ≡ scattered-of d (y .now)) (λ z ws. id⊢ 𝓤 _) tt (λ z ws e. refl) (λ _. vunit) nothing-tells
       (and-then ! (load ! (from ! (stop !)) (look ! 9 refl)) (and-then ! (load ! (from ! (stop !)) (look ! 5 refl)) (no-more !))) (λ ws e _.
       land ! (from ! (stop !)) (init ! 12 refl (tt, tt)) $

@@ -45,13 +45,13 @@ use denote.Triple.Statement.{Contract, Triple}
 use denote.Triple.Table.{entered, cited}
 use denote.Triple.Walked.{says, Stays, stay-dropped, stay-slice, walkOf, goes-dropped, goes-slice, Walks, ends-at, walked, walk-meets}
 use Rattle.sheet.specs.declared.Task.{Task}
-use Rattle.sheet.specs.declared.Sheet.{Sheet}
+use Rattle.sheet.specs.declared.TaskSet.{TaskSet}
 use Rattle.sheet.proofs.Task as T
-use Rattle.sheet.proofs.Sheet as S
+use Rattle.sheet.proofs.TaskSet as S
 use Rattle.lists.specs.Lists.{scattered-of}
 use Rattle.lists.specs.Parts.{no-record, to-fill as to-fill-of}
 use Rattle.lists.proofs.Laws.{laid-to, laid-none, laid-more, laid-length, fill-most, fill-room, laid-as-scattered}
-use Rattle.lists.proofs.Records.{task-val, sheet-val, IsSheet, task-tells, sheet-tells, tasks-length, task-makes, sheet-makes, task-typed, sheet-typed}
+use Rattle.lists.proofs.Records.{task-val, set-val, IsSet, task-tells, set-tells, tasks-length, task-makes, set-makes, task-typed, set-typed}
 use Rattle.lists.proofs.Walk.{tests, calls-value}
 use Rattle.lists.proofs.to_fill as to-fill
 use Rattle.lists.proofs.to_fill.Symbol as to-fill-def
@@ -76,8 +76,8 @@ word = tyInt w64
 abbrev τTask : Ty
 τTask = spell body.table (pointee (T.the-row .written))
 
-abbrev τSheet : Ty
-τSheet = spell body.table (pointee (S.the-row .written))
+abbrev τTaskSet : Ty
+τTaskSet = spell body.table (pointee (S.the-row .written))
 
 abbrev τList : Ty
 τList = sliceTy (tyRef (named 0) mut (pointee (T.the-row .written)))
@@ -90,7 +90,7 @@ module _ {M : Type 1} (𝓤 : URA M) (H : Heap 𝓤) (A : Atoms 𝓤) (mem : Mem
   abbrev RecordAt : Contract 𝓤
   RecordAt = tripleOf 𝓤 H A record-at.signature (record-at.spec 𝓤 H A mem run)
 
-module _ {M : Type 1} (𝓤 : URA M) (H : Heap 𝓤) (A : Atoms 𝓤) (W : Given 𝓤 H A) (mem : Memory → SProp 𝓤) (run : Routine → Fun 𝓤) (κ : Lft) (q : Share) (d : Sheet) (b o : ℕ) (γ : GName) (ys : List Task) (is-set : IsSheet d) (room : Room T.the-row (length ys)) where
+module _ {M : Type 1} (𝓤 : URA M) (H : Heap 𝓤) (A : Atoms 𝓤) (W : Given 𝓤 H A) (mem : Memory → SProp 𝓤) (run : Routine → Fun 𝓤) (κ : Lft) (q : Share) (d : TaskSet) (b o : ℕ) (γ : GName) (ys : List Task) (is-set : IsSet d) (room : Room T.the-row (length ys)) where
   abbrev at-list : List Task → RefT (List Task)
   at-list zs = record { ptr = (b, o); name = γ; now = zs }
 
@@ -98,7 +98,7 @@ module _ {M : Type 1} (𝓤 : URA M) (H : Heap 𝓤) (A : Atoms 𝓤) (W : Given
   s = sliceVal (b, o) (length ys)
 
   abbrev vals : List Val × (List Val × Unit {0})
-  vals = (sheet-val d ∷ [], (s ∷ [], tt))
+  vals = (set-val d ∷ [], (s ∷ [], tt))
 
   abbrev bound : walkOf 𝓤 H A scattered.ended stayed (scattered.clauses 𝓤 H A mem run) .Ghost
   bound = (((κ, tt), (q, tt), tt, (d, (at-list ys, tt)), vals), tt)
@@ -151,14 +151,14 @@ module _ {M : Type 1} (𝓤 : URA M) (H : Heap 𝓤) (A : Atoms 𝓤) (W : Given
     Λ = 𝓣 .Λ
 
     abbrev En : Env 𝓤 H
-    En = (tyUnit, l₀) ∷ (τSheet, l₁) ∷ (τList, l₂) ∷ (word, l₃) ∷ (word, l₄) ∷ (word, l₅) ∷ (tyBool, l₆) ∷ (τTask, l₇) ∷ (word, l₈) ∷ (tyPtr, l₉) ∷ []
+    En = (tyUnit, l₀) ∷ (τTaskSet, l₁) ∷ (τList, l₂) ∷ (word, l₃) ∷ (word, l₄) ∷ (word, l₅) ∷ (tyBool, l₆) ∷ (τTask, l₇) ∷ (word, l₈) ∷ (tyPtr, l₉) ∷ []
 
     -- [_9; …; _8; …; _7; …; _6; …; _5; …; i; …; count; …; list; …; set; …; room for the result; …; the list's content; its borrow; the token]
     abbrev At : Upto → List (Item 𝓤)
     At i =
         ‵ (froom tyPtr l₉ 0) ∷ ‵ (fdies tyPtr l₉) ∷ ‵ (froom word l₈ 0) ∷ ‵ (fdies word l₈) ∷ ‵ (froom τTask l₇ 0) ∷ ‵ (fdies τTask l₇) ∷ ‵ (froom tyBool l₆ 0) ∷ ‵ (fdies tyBool l₆)
         ∷ ‵ (fat fullShare word l₅ 0 (vint w64 (length ys))) ∷ ‵ (fdies word l₅) ∷ ‵ (fat fullShare word l₄ 0 (vint w64 (i .0))) ∷ ‵ (fdies word l₄) ∷ ‵ (fat fullShare word l₃ 0 (vint w64 m)) ∷ ‵ (fdies word l₃)
-        ∷ ‵ (fat fullShare τList l₂ 0 s) ∷ ‵ (fdies τList l₂) ∷ ‵ (fat fullShare τSheet l₁ 0 (sheet-val d)) ∷ ‵ (fdies τSheet l₁) ∷ ‵ (froom tyUnit l₀ 0) ∷ ‵ (fdies tyUnit l₀)
+        ∷ ‵ (fat fullShare τList l₂ 0 s) ∷ ‵ (fdies τList l₂) ∷ ‵ (fat fullShare τTaskSet l₁ 0 (set-val d)) ∷ ‵ (fdies τTaskSet l₁) ∷ ‵ (froom tyUnit l₀ 0) ∷ ‵ (fdies tyUnit l₀)
         ∷ obs-at (zs (i .0)) ∷ bor-at (zs (i .0)) ∷ ‵ (flft κ q) ∷ []
 
     abbrev Turned : Upto → Out → SProp 𝓤
@@ -170,8 +170,8 @@ module _ {M : Type 1} (𝓤 : URA M) (H : Heap 𝓤) (A : Atoms 𝓤) (W : Given
         assigns ! (bin ! (load ! (from ! (stop !)) (look ! 10 refl)) (load ! (from ! (stop !)) (look ! 12 refl)) tt) (from ! (stop !)) (init ! 6 refl (tt, tt)) $
         tests ! (load ! (from ! (stop !)) (look ! 6 refl))
         (λ less.
-        calls-value ! (fmOf 𝓤 H (W .laws) 𝓣) record-at.ended (record-at.clauses 𝓤 H A mem run) known-record (tt, tt, tt, (d, (i .0, tt)), (sheet-val d ∷ [], (vint w64 (i .0) ∷ [], tt))) tt
-        (factI 𝓤 (i .0 < 16) (emp 𝓤) (in-set less)) (id⊢ 𝓤 _) (sheet-makes 𝓤 H A, (uint-makes 𝓤 H A W w64, tt)) (is-set, ((refl, fits less), tt)) (λ r. r ≡ record-i) (λ r ws. id⊢ 𝓤 _) record-i (λ r e. e) task-val task-tells
+        calls-value ! (fmOf 𝓤 H (W .laws) 𝓣) record-at.ended (record-at.clauses 𝓤 H A mem run) known-record (tt, tt, tt, (d, (i .0, tt)), (set-val d ∷ [], (vint w64 (i .0) ∷ [], tt))) tt
+        (factI 𝓤 (i .0 < 16) (emp 𝓤) (in-set less)) (id⊢ 𝓤 _) (set-makes 𝓤 H A, (uint-makes 𝓤 H A W w64, tt)) (is-set, ((refl, fits less), tt)) (λ r. r ≡ record-i) (λ r ws. id⊢ 𝓤 _) record-i (λ r e. e) task-val task-tells
         (and-then ! (load ! (from ! (stop !)) (look ! 17 refl)) (and-then ! (load ! (from ! (stop !)) (look ! 11 refl)) (no-more !))) (λ is.
         land ! (from ! (stop !)) (init ! 4 refl (task-typed 𝓤 H A W record-i is .0)) $
         assigns ! (bin ! (load ! (from ! (stop !)) (look ! 10 refl)) (lit ! tt) (record { fits = bytes-fit less })) (from ! (stop !)) (init ! 2 refl (tt, record { fits = bytes-fit less })) $
@@ -222,14 +222,14 @@ module _ {M : Type 1} (𝓤 : URA M) (H : Heap 𝓤) (A : Atoms 𝓤) (W : Given
         next-fits less = omega (arith, in-set less)
 
   walk : (𝓣 : Tables 𝓤 H) → Triple 𝓤 (𝓣 .C #to-fill) (ToFill 𝓤 H A mem run) → Triple 𝓤 (𝓣 .C #record-at) (RecordAt 𝓤 H A mem run)
-      → ent 𝓤 (onEntry 𝓤 H A scattered.signature (κ, tt) (q, tt) (d, (at-list ys, tt)) vals) (WpFn 𝓤 H (𝓣 .C) (𝓣 .Λ) code.function (sheet-val d ∷ s ∷ []) Post)
+      → ent 𝓤 (onEntry 𝓤 H A scattered.signature (κ, tt) (q, tt) (d, (at-list ys, tt)) vals) (WpFn 𝓤 H (𝓣 .C) (𝓣 .Λ) code.function (set-val d ∷ s ∷ []) Post)
   walk 𝓣 known-fill known-record =
-      qed W ((‵ (flft κ q) ⊛ ‵ ftrue) ∷ ‵ (owns (S.the-row ∷ MutSlice (named 0) κ T.the-row ∷ []) (d, (at-list ys, tt)) vals) ∷ []) ∵ enter ! (𝓣 .C) (𝓣 .Λ) code.function (sheet-val d ∷ s ∷ []) _ $
+      qed W ((‵ (flft κ q) ⊛ ‵ ftrue) ∷ ‵ (owns (S.the-row ∷ MutSlice (named 0) κ T.the-row ∷ []) (d, (at-list ys, tt)) vals) ∷ []) ∵ enter ! (𝓣 .C) (𝓣 .Λ) code.function (set-val d ∷ s ∷ []) _ $
       alloc1 ! (λ l₀. alloc1 ! (λ l₁. alloc1 ! (λ l₂. alloc1 ! (λ l₃. alloc1 ! (λ l₄. alloc1 ! (λ l₅. alloc1 ! (λ l₆. alloc1 ! (λ l₇. alloc1 ! (λ l₈. alloc1 ! (λ l₉. alloc0 ! $ params1 ! $
-      pass1 ! (init ! 16 refl (sheet-typed 𝓤 H A W d is-set .0)) $ pass1 ! (init ! 14 refl (tt, (tt, (record { fits = room .0 }, tt)))) $ pass0 ! $
+      pass1 ! (init ! 16 refl (set-typed 𝓤 H A W d is-set .0)) $ pass1 ! (init ! 14 refl (tt, (tt, (record { fits = room .0 }, tt)))) $ pass0 ! $
       assigns ! (of-opd ! (load ! (from ! (fld ! refl (stop !))) (look-in ! 14 (sub ! 1 refl (whole !))))) (from ! (stop !)) (init ! 8 refl (tt, record { fits = room .0 })) $
-      calls-value ! (fmOf 𝓤 H (W .laws) 𝓣) to-fill.ended (to-fill.clauses 𝓤 H A mem run) known-fill (tt, tt, tt, (d, (length ys, tt)), (sheet-val d ∷ [], (vint w64 (length ys) ∷ [], tt))) tt (id⊢ 𝓤 _) (id⊢ 𝓤 _)
-      (sheet-makes 𝓤 H A, (uint-makes 𝓤 H A W w64, tt)) (is-set, ((refl, room .0), tt)) (λ r. r ≡ m) (λ r ws. id⊢ 𝓤 _) m (λ r e. e) (vint w64) (uint-tells w64)
+      calls-value ! (fmOf 𝓤 H (W .laws) 𝓣) to-fill.ended (to-fill.clauses 𝓤 H A mem run) known-fill (tt, tt, tt, (d, (length ys, tt)), (set-val d ∷ [], (vint w64 (length ys) ∷ [], tt))) tt (id⊢ 𝓤 _) (id⊢ 𝓤 _)
+      (set-makes 𝓤 H A, (uint-makes 𝓤 H A W w64, tt)) (is-set, ((refl, room .0), tt)) (λ r. r ≡ m) (λ r ws. id⊢ 𝓤 _) m (λ r e. e) (vint w64) (uint-tells w64)
       (and-then ! (load ! (from ! (stop !)) (look ! 17 refl)) (and-then ! (load ! (from ! (stop !)) (look ! 9 refl)) (no-more !))) (λ is.
       land ! (from ! (stop !)) (init ! 12 refl (tt, record { fits = is .1 })) $
       assigns ! (of-opd ! (lit ! tt)) (from ! (stop !)) (init ! 10 refl (tt, record { fits = lit< tt })) $
@@ -244,7 +244,7 @@ module _ {M : Type 1} (𝓤 : URA M) (H : Heap 𝓤) (A : Atoms 𝓤) (W : Given
     (known-fill : Triple 𝓤 (𝓣 .C #to-fill) (ToFill 𝓤 H A mem run)) (known-record : Triple 𝓤 (𝓣 .C #record-at) (RecordAt 𝓤 H A mem run)) where
   scattered-walks : Walks 𝓤 H A scattered.ended stayed (WpFn 𝓤 H (𝓣 .C) (𝓣 .Λ) code.function) (scattered.clauses 𝓤 H A mem run)
   scattered-walks = walked 𝓤 H A scattered.ended stayed (scattered.clauses 𝓤 H A mem run) (WpFn 𝓤 H (𝓣 .C) (𝓣 .Λ) code.function)
-      (λ κs. ((λ s. sheet-val s ∷ []), (slice-vals, tt))) (λ κs. (sheet-tells, (mut-slice-tells (named 0) (κs .0) T.the-row, tt)))
+      (λ κs. ((λ s. set-val s ∷ []), (slice-vals, tt))) (λ κs. (set-tells, (mut-slice-tells (named 0) (κs .0) T.the-row, tt)))
       (λ κs qs bounds a g are. via 𝓤 _ (fst∗ 𝓤 _ (emp 𝓤))
       (walk 𝓤 H A W mem run (κs .0) (qs .0) (a .0) (a .1 .0 .ptr .0) (a .1 .0 .ptr .1) (a .1 .0 .name) (a .1 .0 .now) (are .0) (are .1 .0 .0 .1) 𝓣 known-fill known-record))
 

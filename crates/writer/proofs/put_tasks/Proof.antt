@@ -11,10 +11,10 @@ use Rattle.writer.proofs.put_tasks.Statement.{statement}
 use Rattle.writer.proofs.put_tasks.Tie as tie
 
 abbrev Inv-loop : tie.InvT-loop
-Inv-loop bytes₀ at sheet count next₀ i₀ bytes next i = Stand bytes₀ at sheet i bytes next
+Inv-loop bytes₀ at set count next₀ i₀ bytes next i = Stand bytes₀ at set i bytes next
 
 abbrev μ-loop : tie.MeasureT-loop
-μ-loop bytes₀ at sheet count next₀ i₀ bytes next i = sheet .«task_count» - i
+μ-loop bytes₀ at set count next₀ i₀ bytes next i = set .«task_count» - i
 
 -- the array of a set's records has its sixteen places
 long : (c : tie.Start Inv-loop μ-loop) → length (c .args .t3 .tasks) ≡ most-tasks

@@ -12,10 +12,10 @@ use Rattle.writer.proofs.sheet_size.Statement.{statement}
 use Rattle.writer.proofs.sheet_size.Tie as tie
 
 abbrev Inv-loop : tie.InvT-loop
-Inv-loop sheet count bits₀ i₀ bits i = Counted sheet i bits
+Inv-loop set count bits₀ i₀ bits i = Counted set i bits
 
 abbrev μ-loop : tie.MeasureT-loop
-μ-loop sheet count bits₀ i₀ bits i = sheet .«task_count» - i
+μ-loop set count bits₀ i₀ bits i = set .«task_count» - i
 
 -- the array of a set's records has its sixteen places
 long : (c : tie.Start Inv-loop μ-loop) → length (c .args .t1 .tasks) ≡ most-tasks

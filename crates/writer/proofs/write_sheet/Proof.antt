@@ -26,7 +26,7 @@ enum-told : tie.Need-enum-told
 enum-told c = search needs
 
 -- behind the refusal the set is admitted
-set-admitted : (c : tie.After-enum-told) → admission (c .before .before .before .before .args .sheet) ≡ Admitted
+set-admitted : (c : tie.After-enum-told) → admission (c .before .before .before .before .args .set) ≡ Admitted
 set-admitted c = sym (c .before .before .admit .ensures) ∙ c .enum-told .given .1
 
 sheet-size-requires : tie.Need-sheet-size-requires
@@ -51,7 +51,7 @@ returns-3 : tie.Need-returns-3
 returns-3 c =
     let z = c .before .before .before .before .before in
     let a = z .before .before .before .before .before in
-    let d = done (a .args .sheet) (now (a .args .bytes)) (set-admitted (z .before)) (rw (← z .sheet-size .ensures) (c .before .before .before .before .if1 .left)) in
+    let d = done (a .args .set) (now (a .args .bytes)) (set-admitted (z .before)) (rw (← z .sheet-size .ensures) (c .before .before .before .before .if1 .left)) in
     (ap Bytes (z .sheet-size .ensures) ∙ d .0, ap₂ (λ (l : List ℕ) (n : ℕ). l ++ drop n (now (a .args .bytes))) (c .before .before .put-sheet .ensures) (z .sheet-size .ensures) ∙ d .1)
 
 pub write-sheet-spec : {M : Type 1} → statement M

@@ -3,7 +3,7 @@ use Prim.Native.Nat.{_≤_, _<_, _-_}
 use native.Mathlib.Omega.{arith}
 use mathlib.Core.Path.{_≡_}
 use lib.ListN.{length}
-use Rattle.order.specs.Ordered.{tasks-of}
+use Rattle.order.specs.Ordered.{tasks-in-order}
 use Rattle.analysis.proofs.Growing.{Grown, none-grown, grown-more, all-grown, count-is, task-is}
 use borrow.Author.Needs.{needs}
 use Rattle.analysis.proofs.passing.rows_of.Statement.{statement}
@@ -18,7 +18,7 @@ use Rattle.sheet.proofs.tasks_in.Reads as tasks-in-reads
 
 abbrev Inv-loop : tie.InvT-loop
 Inv-loop o tasks count rows₀ above₀ p₀ rows above p =
-    (p ≤ count) × (count ≡ length (tasks-of o)) × (count ≤ 16) × Grown o rows above p
+    (p ≤ count) × (count ≡ length (tasks-in-order o)) × (count ≤ 16) × Grown o rows above p
 
 abbrev μ-loop : tie.MeasureT-loop
 μ-loop o tasks count rows₀ above₀ p₀ rows above p = count - p
@@ -83,8 +83,8 @@ loop-again c =
     let o = at .before .before .before .before .args .o in
     let n = at .before .before .tasks-in .ensures in
     let p = at .loop .p in
-    let inside : p < length (tasks-of o) = omega (arith, at .loop .inv .1) in
-    let small : length (tasks-of o) ≤ 16 = omega (arith, at .loop .inv .1) in (
+    let inside : p < length (tasks-in-order o) = omega (arith, at .loop .inv .1) in
+    let small : length (tasks-in-order o) ≤ 16 = omega (arith, at .loop .inv .1) in (
       search needs,
       at .loop .inv .1,
       at .loop .inv .2,

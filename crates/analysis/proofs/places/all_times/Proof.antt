@@ -3,7 +3,7 @@ use mathlib.Core.Path.{_≡_, sym, ap, _∙_}
 use Prim.Native.Nat.{_≤_, _<_, _-_}
 use native.Mathlib.Omega.{arith}
 use lib.ListN.{length}
-use Rattle.order.specs.Ordered.{tasks-of}
+use Rattle.order.specs.Ordered.{tasks-in-order}
 use Rattle.analysis.specs.Ready.{numbers-of}
 use Rattle.analysis.proofs.PlaceOf.{tasks-count, numbers-count, place-below}
 use Rattle.analysis.proofs.Eights.{up-to, up-to-none, up-to-more, up-to-all, length-up-to}
@@ -12,13 +12,13 @@ use Rattle.analysis.proofs.places.all_times.Statement.{statement}
 use Rattle.analysis.proofs.places.all_times.Tie as tie
 
 abbrev Inv-loop : tie.InvT-loop
-Inv-loop o rows count times₀ i₀ times i = (i ≤ count) × (count ≤ 16) × (times ≡ up-to (numbers-of o) (tasks-of o) i)
+Inv-loop o rows count times₀ i₀ times i = (i ≤ count) × (count ≤ 16) × (times ≡ up-to (numbers-of o) (tasks-in-order o) i)
 
 abbrev μ-loop : tie.MeasureT-loop
 μ-loop o rows count times₀ i₀ times i = count - i
 
 -- the place of the task is one of the set
-below : (c : tie.After-place-of Inv-loop μ-loop) → c .place-of .result < length (tasks-of (c .before .before .before .before .before .args .o))
+below : (c : tie.After-place-of Inv-loop μ-loop) → c .place-of .result < length (tasks-in-order (c .before .before .before .before .before .args .o))
 below c =
     let o = c .before .before .before .before .before .args .o in
     let asked = c .before .before .before .tasks-in .ensures in

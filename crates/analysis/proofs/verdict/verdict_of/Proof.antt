@@ -4,19 +4,19 @@ use lib.ListN.{length}
 use Prim.Native.Nat.{_≤_, _-_}
 use native.Mathlib.Omega.{arith}
 use Rattle.analysis.proofs.PlaceOf.{tasks-count}
-use Rattle.order.specs.Ordered.{tasks-of}
+use Rattle.order.specs.Ordered.{tasks-in-order}
 use borrow.Author.Needs.{needs}
 use Rattle.analysis.proofs.Passed.{Passed, none-passed, says-no, says-yes, one-passed, all-passed, first-missed}
 use Rattle.analysis.proofs.verdict.verdict_of.Statement.{statement}
 use Rattle.analysis.proofs.verdict.verdict_of.Tie as tie
 
 abbrev Inv-loop : tie.InvT-loop
-Inv-loop o rows count p₀ p = (p ≤ count) × (count ≤ 16) × Passed (tasks-of o) p
+Inv-loop o rows count p₀ p = (p ≤ count) × (count ≤ 16) × Passed (tasks-in-order o) p
 
 abbrev μ-loop : tie.MeasureT-loop
 μ-loop o rows count p₀ p = count - p
 
-in-use : (c : tie.After-tasks-in Inv-loop μ-loop) → length (tasks-of (c .before .before .args .o)) ≡ c .tasks-in .result
+in-use : (c : tie.After-tasks-in Inv-loop μ-loop) → length (tasks-in-order (c .before .before .args .o)) ≡ c .tasks-in .result
 in-use c = tasks-count _ _ (c .tasks-in .ensures .0) (c .tasks-in .ensures .1)
 
 tasks-in-requires : tie.Need-tasks-in-requires Inv-loop μ-loop

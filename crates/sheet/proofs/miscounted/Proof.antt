@@ -3,8 +3,8 @@ use mathlib.Core.Bool.{Bool, _||_}
 use mathlib.Core.Path.{sym, ap}
 use borrow.Author.Tests.{eq-eqb, ne-eqb}
 use lib.Dec.{ltb}
-use Rattle.reader.proofs.miscounted.Statement.{statement}
-use Rattle.reader.proofs.miscounted.Tie as tie
+use Rattle.sheet.proofs.miscounted.Statement.{statement}
+use Rattle.sheet.proofs.miscounted.Tie as tie
 
 returns : tie.Need-returns
 returns c = let a = c .before .args in sym (ap (λ (b : Bool). b || ltb (a .most) (a .n)) (eq-eqb (a .n) 0 (c .if1 .taken)))

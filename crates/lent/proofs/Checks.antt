@@ -1,0 +1,67 @@
+-- A row of checks, and one row behind another.
+use mathlib.Core.Bool.{Bool, true, false}
+use mathlib.Core.List.{List, [], _∷_, _++_}
+use mathlib.Core.Option.{Option, none, some}
+use mathlib.Core.Path.{_≡_, refl, sym, ap, _∙_}
+use Prim.Native.Nat.{ℕ}
+use native.Mathlib.Omega.{arith}
+use Rattle.lent.specs.Checks.{Check, _⇒_, first-refusal}
+
+module _ {R : Type 0} where
+  -- a check that applies decides
+  pub applies : (b : Bool) (r : R) (cs : List (Check R)) → b ≡ true → first-refusal ((b ⇒ r) ∷ cs) ≡ some r
+  unfolding first-refusal
+  applies b r cs e = rw e
+
+  -- one that does not is passed over
+  pub passed-over : (b : Bool) (r : R) (cs : List (Check R)) → b ≡ false → first-refusal ((b ⇒ r) ∷ cs) ≡ first-refusal cs
+  unfolding first-refusal
+  passed-over b r cs e = rw e
+
+  -- a row of none turns nothing away
+  pub no-check : first-refusal {R = R} [] ≡ none
+  unfolding first-refusal
+  no-check = refl
+
+  -- a refusal, or what comes next where there is none
+  abbrev pub or-else : Option R → Option R → Option R
+  or-else none next = next
+  or-else (some r) next = some r
+
+  pub append : (cs ds : List (Check R)) → first-refusal (cs ++ ds) ≡ or-else (first-refusal cs) (first-refusal ds)
+  unfolding first-refusal
+  append [] ds = refl
+  append (c ∷ cs) ds = go (c .applies) (append cs ds)
+    where
+      go : (b : Bool) → first-refusal (cs ++ ds) ≡ or-else (first-refusal cs) (first-refusal ds)
+          → elim b as (λ (x : Bool). Option R) [ true ↦ some (c .refusal) | false ↦ first-refusal (cs ++ ds) ]
+          ≡ or-else (elim b as (λ (x : Bool). Option R) [ true ↦ some (c .refusal) | false ↦ first-refusal cs ]) (first-refusal ds)
+      go true e = refl
+      go false e = e
+
+  pub none-first : (cs ds : List (Check R)) → first-refusal cs ≡ none → first-refusal (cs ++ ds) ≡ first-refusal ds
+  none-first cs ds e = append cs ds ∙ ap (λ (a : Option R). or-else a (first-refusal ds)) e
+
+  pub some-first : (cs ds : List (Check R)) (r : R) → first-refusal cs ≡ some r → first-refusal (cs ++ ds) ≡ some r
+  some-first cs ds r e = append cs ds ∙ ap (λ (a : Option R). or-else a (first-refusal ds)) e
+
+  -- where nothing is turned away the first check does not apply, and the others turn nothing away
+  pub passed : (c : Check R) (cs : List (Check R)) → first-refusal (c ∷ cs) ≡ none → (c .applies ≡ false) × (first-refusal cs ≡ none)
+  unfolding first-refusal
+  passed c cs e = go (c .applies) e
+    where
+      go : (b : Bool) → _≡_ {A = Option R} (elim b as (λ (x : Bool). Option R) [ true ↦ some (c .refusal) | false ↦ first-refusal cs ]) none
+          → (b ≡ false) × (first-refusal cs ≡ none)
+      go true q = let z : _≡_ {A = ℕ} 0 1 = cc in let z : ⊥ = omega arith in absurd z
+      go false q = (refl, q)
+
+  pub both-passed : (cs ds : List (Check R)) → first-refusal (cs ++ ds) ≡ none → (first-refusal cs ≡ none) × (first-refusal ds ≡ none)
+  both-passed cs ds e = go (first-refusal cs) refl (sym (append cs ds) ∙ e)
+    where
+      go : (a : Option R) → first-refusal cs ≡ a → or-else (first-refusal cs) (first-refusal ds) ≡ none → (first-refusal cs ≡ none) × (first-refusal ds ≡ none)
+      go none p q = (p, ap (λ (x : Option R). or-else x (first-refusal ds)) (sym p) ∙ q)
+      go (some r) p q =
+          let w : some r ≡ none = ap (λ (x : Option R). or-else x (first-refusal ds)) (sym p) ∙ q in
+          let z : _≡_ {A = ℕ} 0 1 = cc in
+          let z : ⊥ = omega arith in
+          absurd z

@@ -1,0 +1,63 @@
+-- What a call with lent places answers and leaves: turned away by its own checks, by the room, or done.
+use mathlib.Core.Bool.{true, false}
+use mathlib.Core.List.{List, [], _∷_, _++_}
+use mathlib.Core.Option.{Option, none, some}
+use mathlib.Core.Path.{_≡_, refl, sym, ap, _∙_}
+use Prim.Native.Nat.{ℕ, _≤_, _<_}
+use native.Mathlib.Decide.{decLt}
+use native.Mathlib.Omega.{arith}
+use borrow.Author.Tests.{lt-ltb, le-ltb}
+use lib.ListN.{length}
+use Rattle.lent.specs.Checks.{Check, _⇒_, first-refusal}
+use Rattle.lent.specs.Lent.{Call, laid, refusal-of, answered, left-after}
+use Rattle.lent.proofs.Checks.{applies, passed-over, no-check, none-first, some-first}
+
+module _ {R A X : Type 0} (full : R) (refused : R → X) (call : Call R A X) (places : List A) where
+  -- the answer and the places of a refusal, and of a call that is done
+  pub record TurnedAway (r : R) : Type 0 where
+    pub why : refusal-of full call places ≡ some r
+    pub answer : answered full refused call places ≡ refused r
+    pub unchanged : left-after full call places ≡ places
+
+  pub record Done : Type 0 where
+    pub admitted : first-refusal (call .checks) ≡ none
+    pub room : length (call .writes) ≤ length places
+    pub answer : answered full refused call places ≡ call .says
+    pub holds : left-after full call places ≡ laid (call .writes) places
+
+  turned : (r : R) → refusal-of full call places ≡ some r → TurnedAway r
+  unfolding answered left-after
+  turned r e = record { why = e; answer = rw (e, answered); unchanged = rw (e, left-after) }
+
+  -- its own checks turn it away
+  pub by-checks : (r : R) → first-refusal (call .checks) ≡ some r → TurnedAway r
+  unfolding refusal-of
+  by-checks r e = turned r (some-first (call .checks) _ r e)
+
+  -- the places are too few
+  pub by-room : first-refusal (call .checks) ≡ none → length places < length (call .writes) → TurnedAway full
+  unfolding refusal-of
+  by-room e h = turned full (none-first (call .checks) _ e ∙ applies _ full [] (lt-ltb (length places) (length (call .writes)) h))
+
+  -- it is done
+  pub done : first-refusal (call .checks) ≡ none → length (call .writes) ≤ length places → Done
+  unfolding refusal-of answered left-after
+  done e h =
+      let n : refusal-of full call places ≡ none = none-first (call .checks) _ e ∙ passed-over _ full [] (le-ltb (length places) (length (call .writes)) h) ∙ no-check in
+      record { admitted = e; room = h; answer = rw (n, answered); holds = rw (n, left-after) }
+
+  -- there is no third way
+  pub data Told : Type 0 where
+    turned-away : (r : R) → TurnedAway r → Told
+    is-done : Done → Told
+
+  pub told : Told
+  told = go (first-refusal (call .checks)) refl
+    where
+      roomy : first-refusal (call .checks) ≡ none → Dec (length places < length (call .writes)) → Told
+      roomy e (yes h) = turned-away full (by-room e h)
+      roomy e (no h) = is-done (done e (omega arith))
+
+      go : (o : Option R) → first-refusal (call .checks) ≡ o → Told
+      go none e = roomy e (decLt (length places) (length (call .writes)))
+      go (some r) e = turned-away r (by-checks r e)
