@@ -1,42 +1,27 @@
 -- The answers to a task, to a row of tasks and to a list, check by check.
-use mathlib.Core.Bool.{true, false, not, _&&_, _||_}
+use mathlib.Core.Bool.{true, false, not, _&&_}
 use mathlib.Core.List.{List, [], _∷_, _++_, map}
 use mathlib.Core.Path.{_≡_, refl, sym, ap, _∙_}
 use Prim.Native.Nat.{ℕ, suc, _+_, _≤_, _<_}
 use native.Mathlib.Numerals.{add-one}
-use borrow.Author.Tests.{lt-ltb, le-ltb, eq-eqb, ne-eqb}
-use lib.Dec.{ltb, eqb}
 use lib.ListN.{length, getD, take}
 use Rattle.theory.specs.Tasks.{Task}
 use Rattle.theory.proofs.Search.{some-found, none-found}
-use Rattle.sheet.specs.Constants.{most-tasks, most-frames, deadline-monotonic}
+use Rattle.sheet.specs.Constants.{most-tasks, most-frames}
 use Rattle.sheet.specs.Tasks.{task-in, records-of}
 use Rattle.lent.specs.Checks.{_⇒_}
-use Rattle.sheet.specs.Admission.{decided, in-range, well-formed, lock-fits, monotonic, policy-check, task-count-check, frame-count-check, task-checks, frame-count-checks, list-checks, admission}
+use Rattle.sheet.specs.Admission.{decided, miscounted, known-policy, in-range, well-formed, lock-fits, monotonic, policy-check, task-count-check, frame-count-check, task-checks, frame-count-checks, list-checks, admission}
 use Rattle.sheet.specs.declared.Task.{Task as Record}
 use Rattle.sheet.specs.declared.TaskSet.{TaskSet}
 use Rattle.sheet.specs.declared.Answer.{Answer}
 use Rattle.sheet.specs.declared.Answer.the-variants.{Admitted, Refused}
 use Rattle.sheet.specs.declared.Refusal.{Refusal}
 use Rattle.sheet.specs.declared.Refusal.the-variants.{Policy, TaskCount, FrameCount, IllFormed, Lock, NotMonotonic}
-use Rattle.sheet.proofs.Checks.{applies, passed-over, admitted-first, refused-first}
+use Rattle.sheet.proofs.Checks.{applies, passed-over, no-check, admitted-first, refused-first}
 use Rattle.admission.specs.declared.Start.the-variants.{At, Nowhere}
 use Rattle.admission.specs.Start.{start-of}
 use Rattle.admission.proofs.Starts.{found-at, found-nowhere}
 use Rattle.admission.proofs.Remaining.{remaining, all-remain, one-remains, none-remain}
-
--- ---- a count, "0 or over" the most
-
-module _ (n most : ℕ) where
-  zero-out : n ≡ 0 → (eqb n 0 || ltb most n) ≡ true
-  zero-out z = rw (eq-eqb n 0 z)
-
-  module _ (not-zero : n ≡ 0 → ⊥) where
-    over-out : most < n → (eqb n 0 || ltb most n) ≡ true
-    over-out l = rw (ne-eqb n 0 not-zero, lt-ltb most n l)
-
-    pub within-range : n ≤ most → (eqb n 0 || ltb most n) ≡ false
-    within-range l = rw (ne-eqb n 0 not-zero, le-ltb most n l)
 
 -- ---- one task
 
@@ -69,8 +54,8 @@ module _ (i : ℕ) (t : Task) (ts : List Task) where
       passed s e = to-the-third ∙ passed-over _ _ _ (ap not (some-found (found-at _ s e)))
 
 pub no-more : (i : ℕ) → decided (task-checks i []) ≡ Admitted
-unfolding task-checks decided
-no-more i = refl
+unfolding task-checks
+no-more i = no-check
 
 -- ---- task by task
 
@@ -116,56 +101,47 @@ module _ (records : List Record) (count : ℕ) where
         count-is : decided (frame-count-check i n ∷ frame-count-checks (i + 1) (remaining records count (i + 1))) ≡ counts-left records count i
         count-is = rw (← e) at (sym count-turn)
 
-        pub counts-zero : n ≡ 0 → Refused (FrameCount i) ≡ counts-left records count i
+        pub counts-refuse : miscounted n most-frames ≡ true → Refused (FrameCount i) ≡ counts-left records count i
         unfolding frame-count-check
-        counts-zero z = sym (applies _ _ _ (zero-out n most-frames z)) ∙ count-is
+        counts-refuse m = sym (applies _ _ _ m) ∙ count-is
 
-        pub counts-over : (n ≡ 0 → ⊥) → most-frames < n → Refused (FrameCount i) ≡ counts-left records count i
-        unfolding frame-count-check
-        counts-over z l = sym (applies _ _ _ (over-out n most-frames z l)) ∙ count-is
-
-        pub counts-pass : (n ≡ 0 → ⊥) → n ≤ most-frames → counts-left records count (i + 1) ≡ counts-left records count i
+        pub counts-pass : miscounted n most-frames ≡ false → counts-left records count (i + 1) ≡ counts-left records count i
         unfolding counts-left frame-count-check
-        counts-pass z l = sym (passed-over _ _ _ (within-range n most-frames z l)) ∙ count-is
+        counts-pass m = sym (passed-over _ _ _ m) ∙ count-is
 
     pub tasks-end : (i : ℕ) → count ≤ i → tasks-left records count i ≡ Admitted
-    unfolding tasks-left task-checks decided
-    tasks-end i h = rw (none-remain records count there i h)
+    unfolding tasks-left task-checks
+    tasks-end i h = rw (none-remain records count there i h) no-check
 
     pub counts-end : (i : ℕ) → count ≤ i → counts-left records count i ≡ Admitted
-    unfolding counts-left frame-count-checks decided
-    counts-end i h = rw (none-remain records count there i h)
+    unfolding counts-left frame-count-checks
+    counts-end i h = rw (none-remain records count there i h) no-check
 
 -- ---- a list
 
 module _ (s : TaskSet) where
-  pub policy-refused : deadline-monotonic < s .policy → admission s ≡ Refused Policy
+  pub policy-refused : known-policy (s .policy) ≡ false → admission s ≡ Refused Policy
   unfolding admission list-checks policy-check
-  policy-refused h = applies _ _ _ (large-unknown (s .policy) h)
+  policy-refused e = applies _ _ _ (ap not e)
 
-  module _ (known : s .policy ≤ deadline-monotonic) where
+  module _ (known : known-policy (s .policy) ≡ true) where
     to-the-second : admission s
         ≡ decided (task-count-check (s .«task_count») ∷ frame-count-checks 0 (records-of s) ++ task-checks 0 (map task-in (records-of s)))
     unfolding admission list-checks policy-check
-    to-the-second = passed-over _ _ _ (policy-passes (s .policy) (small-known (s .policy) known))
+    to-the-second = passed-over _ _ _ (ap not known)
 
-    pub no-task : s .«task_count» ≡ 0 → admission s ≡ Refused TaskCount
+    pub tasks-miscounted : miscounted (s .«task_count») most-tasks ≡ true → admission s ≡ Refused TaskCount
     unfolding task-count-check
-    no-task z = to-the-second ∙ applies _ _ _ (zero-out (s .«task_count») most-tasks z)
+    tasks-miscounted m = to-the-second ∙ applies _ _ _ m
 
-    module _ (some-task : s .«task_count» ≡ 0 → ⊥) where
-      pub many-tasks : most-tasks < s .«task_count» → admission s ≡ Refused TaskCount
+    module _ (counted : miscounted (s .«task_count») most-tasks ≡ false) where
+      by-task : admission s ≡ decided (frame-count-checks 0 (records-of s) ++ task-checks 0 (map task-in (records-of s)))
       unfolding task-count-check
-      many-tasks l = to-the-second ∙ applies _ _ _ (over-out (s .«task_count») most-tasks some-task l)
+      by-task = to-the-second ∙ passed-over _ _ _ counted
 
-      module _ (few : s .«task_count» ≤ most-tasks) where
-        pub by-task : admission s ≡ decided (frame-count-checks 0 (records-of s) ++ task-checks 0 (map task-in (records-of s)))
-        unfolding task-count-check
-        by-task = to-the-second ∙ passed-over _ _ _ (within-range (s .«task_count») most-tasks some-task few)
+      module _ (a : Answer) (e : a ≡ decided (frame-count-checks 0 (records-of s))) where
+        pub count-refused : (r : Refusal) → a ≡ Refused r → admission s ≡ Refused r
+        count-refused r p = by-task ∙ refused-first _ _ r (sym e ∙ p)
 
-        module _ (a : Answer) (e : a ≡ decided (frame-count-checks 0 (records-of s))) where
-          pub count-refused : (r : Refusal) → a ≡ Refused r → admission s ≡ Refused r
-          count-refused r p = by-task ∙ refused-first _ _ r (sym e ∙ p)
-
-          pub counts-admitted : a ≡ Admitted → admission s ≡ decided (task-checks 0 (map task-in (records-of s)))
-          counts-admitted p = by-task ∙ admitted-first _ _ (sym e ∙ p)
+        pub counts-admitted : a ≡ Admitted → admission s ≡ decided (task-checks 0 (map task-in (records-of s)))
+        counts-admitted p = by-task ∙ admitted-first _ _ (sym e ∙ p)

@@ -1,8 +1,7 @@
--- The laws for callers are in Admitted; the rest stands below it and below the functions' proofs.
+-- What the proofs of the functions cite.
 pub mod Tests
 pub mod Rows
 pub mod Remaining
-pub mod Records
 pub mod Sums
 pub mod Starts
 pub mod Frames

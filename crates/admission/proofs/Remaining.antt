@@ -1,13 +1,10 @@
 -- A loop over the first of some places: those that remain, turn by turn.
 use mathlib.Core.List.{List, [], _∷_}
 use mathlib.Core.Path.{_≡_, refl}
-use Prim.Native.Nat.{ℕ, _+_, _≤_, _<_, min}
-use native.Mathlib.Decide.{decLe}
-use native.Mathlib.Nat.{min-eq-left, min-eq-right}
+use Prim.Native.Nat.{ℕ, _+_, _≤_, _<_}
 use native.Mathlib.Numerals.{add-one}
-use native.Mathlib.Omega.{arith}
 use lib.ListN.{length, getD, take, drop, drop-of-length-le}
-use lib.Seq.{take-all, drop-cons, getD-take, length-take-le}
+use lib.Seq.{drop-cons, getD-take, length-take-le}
 
 -- of the first n places, those from k on
 pub remaining {ℓ} : {A : Type ℓ} → List A → ℕ → ℕ → List A
@@ -28,11 +25,3 @@ module _ {ℓ} {A : Type ℓ} (xs : List A) (n : ℕ) where
     pub none-remain : (k : ℕ) → n ≤ k → remaining xs n k ≡ []
     unfolding remaining
     none-remain k h = drop-of-length-le (take n xs) {i = k} (rw (length-take-le n xs there) h)
-
-  -- a count takes no more places than there are
-  pub taken-places : (places : ℕ) → length xs ≡ places → take (min n places) xs ≡ take n xs
-  taken-places places e = go (decLe n places)
-    where
-      go : Dec (n ≤ places) → take (min n places) xs ≡ take n xs
-      go (yes h) = rw (min-eq-left h)
-      go (no h) = let le : places ≤ n = omega arith in rw (min-eq-right le, take-all places xs (omega arith), take-all n xs (omega arith))

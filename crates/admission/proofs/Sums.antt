@@ -13,6 +13,8 @@ use lib.Seq.{getD-take, length-take-le}
 use Rattle.theory.specs.First.{every}
 use Rattle.theory.specs.Tasks.{frame-count, frame, work}
 use Rattle.theory.proofs.Work.{work-zero, work-suc, frame-mod}
+use Rattle.sheet.specs.Tasks.{next-round}
+use Rattle.sheet.proofs.Rounds.{round-is}
 use Rattle.admission.specs.Frames.{of-frames, from-at-least}
 use Rattle.admission.proofs.Rows.{every-passes, every-fails, every-ends}
 
@@ -41,12 +43,12 @@ module _ (frames : List ℕ) (count s n sum i v : ℕ) (there : count ≤ length
   sum-more =
       rw (add-one n, work-suc (of-frames (take count frames)) s n, ← was .is-work, ← frame-mod (of-frames (take count frames)) (s + n), count-is frames count there, ← was .place, frame-is frames count there i (was .inside), ← read)
 
-  pub summed-more : (j : ℕ) → v < 2 ^ 32 → j ≡ suc i % count → Summed frames count s (n + 1) (sum + v) j
+  pub summed-more : (j : ℕ) → v < 2 ^ 32 → j ≡ next-round i count → Summed frames count s (n + 1) (sum + v) j
   summed-more j small e =
       record {
         is-work = sum-more;
-        place = e ∙ rw (← add-one i, was .place, mod-add-mod (s + n) count 1, add-assoc s n 1);
-        inside = rw e (mod-lt (suc i) (omega (arith, was .inside)));
+        place = e ∙ round-is i count (was .inside) ∙ rw (← add-one i, was .place, mod-add-mod (s + n) count 1, add-assoc s n 1);
+        inside = rw (e, round-is i count (was .inside)) (mod-lt (suc i) (omega (arith, was .inside)));
         small = omega (arith, was .small);
       }
 

@@ -2,9 +2,10 @@
 ghost use mathlib.Core.Bool.{_&&_};
 ghost use mathlib.Core.List.{[], _∷_, map};
 ghost use mathlib.Core.Path.{_≡_};
-ghost use Prim.Native.Nat.{suc, _^_, _%_, _≤_, _<_, min};
+ghost use Prim.Native.Nat.{_≤_, _<_};
 ghost use lib.ListN.{length, take};
 ghost use Rattle.theory.specs.Tasks.{largest, qualifies};
+ghost use Rattle.sheet.specs.Constants.{most-frames};
 ghost use Rattle.sheet.specs.Tasks.{task-in, records-of};
 ghost use Rattle.sheet.specs.Admission.{decided, in-range, well-formed, lock-fits, task-checks, frame-count-checks, admission};
 ghost use Rattle.admission.specs.Start.{start-of};
@@ -21,51 +22,9 @@ pub enum Start {
     Nowhere,
 }
 
-// Sums of eight fit 64 bits.
-fn wide(x: u32) -> u64
-    ensures { λ r. ⌜ (r ≡ x) × (r < 2 ^ 32) ⌝ }
-{
-    x as u64
-}
-
-// How many frame times a record has room for.
-fn frame_places(frames: [u32; 8]) -> u32
-    ensures { λ r. ⌜ (r ≡ 8) × (length frames ≡ 8) ⌝ }
-{
-    Sheet::MOST_FRAMES
-}
-
-// How many records a set by value has room for.
-fn task_places(tasks: [Task; 16]) -> u32
-    ensures { λ r. ⌜ (r ≡ 16) × (length tasks ≡ 16) ⌝ }
-{
-    Sheet::MOST_TASKS
-}
-
-// How many of the places that there are a count takes.
-fn in_use(count: u32, places: u32) -> usize
-    ensures { λ r. ⌜ r ≡ min count places ⌝ }
-{
-    if count < places {
-        return count as usize;
-    }
-    places as usize
-}
-
-// The frame that follows frame i, going round.
-fn next(i: usize, count: usize) -> usize
-    requires { ⌜ i < count ⌝ }
-    ensures { λ r. ⌜ r ≡ suc i % count ⌝ }
-{
-    if i < count - 1 {
-        return i + 1;
-    }
-    0
-}
-
 // Whether the sum from frame s is at least that from frame k, going round, for each length up to the number of frames.
 fn at_least(frames: &[u32; 8], count: usize, s: usize, k: usize) -> bool
-    requires { ⌜ (length (now frames) ≡ 8) × (count ≤ 8) × (s < count) × (k < count) ⌝ }
+    requires { ⌜ (length (now frames) ≡ most-frames) × (count ≤ most-frames) × (s < count) × (k < count) ⌝ }
     ensures { λ r. ⌜ r ≡ from-at-least (of-frames (take count (now (frames .entry)))) s k ⌝ }
 {
     let mut sum_s: u64 = 0;
@@ -74,13 +33,13 @@ fn at_least(frames: &[u32; 8], count: usize, s: usize, k: usize) -> bool
     let mut j = k;
     let mut n: usize = 0;
     while n < count {
-        sum_s += wide(frames[i]);
-        sum_k += wide(frames[j]);
+        sum_s += sheet::wide(frames[i]);
+        sum_k += sheet::wide(frames[j]);
         if sum_s < sum_k {
             return false;
         }
-        i = next(i, count);
-        j = next(j, count);
+        i = sheet::next_frame(i, count);
+        j = sheet::next_frame(j, count);
         n += 1;
     }
     true
@@ -88,7 +47,7 @@ fn at_least(frames: &[u32; 8], count: usize, s: usize, k: usize) -> bool
 
 // Whether frame s qualifies as a start frame.
 fn qualifies(frames: &[u32; 8], count: usize, s: usize) -> bool
-    requires { ⌜ (length (now frames) ≡ 8) × (count ≤ 8) × (s < count) ⌝ }
+    requires { ⌜ (length (now frames) ≡ most-frames) × (count ≤ most-frames) × (s < count) ⌝ }
     ensures { λ r. ⌜ r ≡ qualifies (of-frames (take count (now (frames .entry)))) s ⌝ }
 {
     for k in 0..count {
@@ -104,7 +63,7 @@ pub fn start_frame(task: Task) -> Start
     ensures { λ r. ⌜ r ≡ start-of (task-in task) ⌝ }
 {
     let frames = task.frames;
-    let count = in_use(task.frame_count, frame_places(frames));
+    let count = sheet::frames_in(task.frame_count, frames);
     for s in 0..count {
         if qualifies(&frames, count, s) {
             return Start::At(s as u32);
@@ -114,7 +73,7 @@ pub fn start_frame(task: Task) -> Start
 }
 
 fn largest(frames: &[u32; 8], count: usize) -> u32
-    requires { ⌜ (length (now frames) ≡ 8) × (count ≤ 8) ⌝ }
+    requires { ⌜ (length (now frames) ≡ most-frames) × (count ≤ most-frames) ⌝ }
     ensures { λ r. ⌜ r ≡ largest (take count (now (frames .entry))) ⌝ }
 {
     let mut most: u32 = 0;
@@ -129,7 +88,7 @@ fn largest(frames: &[u32; 8], count: usize) -> u32
 
 // Whether every frame time lies in least to greatest.
 fn frames_between(frames: &[u32; 8], count: usize, least: u32, greatest: u32) -> bool
-    requires { ⌜ (length (now frames) ≡ 8) × (count ≤ 8) ⌝ }
+    requires { ⌜ (length (now frames) ≡ most-frames) × (count ≤ most-frames) ⌝ }
     ensures { λ r. ⌜ r ≡ all-between least greatest (take count (now (frames .entry))) ⌝ }
 {
     for k in 0..count {
@@ -163,7 +122,7 @@ fn well_formed(task: Task) -> bool
         return false;
     }
     let frames = task.frames;
-    let count = in_use(task.frame_count, frame_places(frames));
+    let count = sheet::frames_in(task.frame_count, frames);
     frames_between(&frames, count, 1, deadline)
 }
 
@@ -172,7 +131,7 @@ pub fn largest_time(task: Task) -> u32
     ensures { λ r. ⌜ r ≡ largest (task-in task .frames) ⌝ }
 {
     let frames = task.frames;
-    let count = in_use(task.frame_count, frame_places(frames));
+    let count = sheet::frames_in(task.frame_count, frames);
     largest(&frames, count)
 }
 
@@ -205,9 +164,10 @@ fn task_answer(task: Task, number: u32) -> Answer
 pub fn admit_tasks(set: TaskSet) -> Answer
     ensures { λ r. ⌜ r ≡ decided (task-checks 0 (map task-in (records-of set))) ⌝ }
 {
-    let count = in_use(set.task_count, task_places(set.tasks));
+    let tasks = set.tasks;
+    let count = sheet::tasks_in(set.task_count, tasks);
     for i in 0..count {
-        let task = set.tasks[i];
+        let task = tasks[i];
         let answer = task_answer(task, i as u32);
         if let Answer::Refused(refusal) = answer {
             return Answer::Refused(refusal);
@@ -220,14 +180,12 @@ pub fn admit_tasks(set: TaskSet) -> Answer
 fn frame_counts(set: TaskSet) -> Answer
     ensures { λ r. ⌜ r ≡ decided (frame-count-checks 0 (records-of set)) ⌝ }
 {
-    let count = in_use(set.task_count, task_places(set.tasks));
+    let tasks = set.tasks;
+    let count = sheet::tasks_in(set.task_count, tasks);
     for i in 0..count {
-        let task = set.tasks[i];
+        let task = tasks[i];
         let n = task.frame_count;
-        if n == 0 {
-            return Answer::Refused(Refusal::FrameCount(i as u32));
-        }
-        if Sheet::MOST_FRAMES < n {
+        if sheet::miscounted(n, Sheet::MOST_FRAMES) {
             return Answer::Refused(Refusal::FrameCount(i as u32));
         }
     }
@@ -238,14 +196,10 @@ fn frame_counts(set: TaskSet) -> Answer
 pub fn admit(set: TaskSet) -> Answer
     ensures { λ r. ⌜ r ≡ admission set ⌝ }
 {
-    if Sheet::DEADLINE_MONOTONIC < set.policy {
+    if !sheet::known_policy(set.policy) {
         return Answer::Refused(Refusal::Policy);
     }
-    let count = set.task_count;
-    if count == 0 {
-        return Answer::Refused(Refusal::TaskCount);
-    }
-    if Sheet::MOST_TASKS < count {
+    if sheet::miscounted(set.task_count, Sheet::MOST_TASKS) {
         return Answer::Refused(Refusal::TaskCount);
     }
     let answer = frame_counts(set);

@@ -1,47 +1,42 @@
 -- `admit_tasks` meets its contract: the records from i on decide.
 use mathlib.Core.List.{List, map}
-use mathlib.Core.Path.{_≡_, sym, ap, _∙_}
+use mathlib.Core.Path.{_≡_, refl, sym, ap, _∙_}
 use Prim.Native.Nat.{_≤_, _-_}
 use native.Mathlib.Omega.{arith}
 use lib.ListN.{length}
 use Rattle.sheet.specs.Tasks.{task-in, records-of}
 use Rattle.sheet.specs.Admission.{decided, task-checks}
 use Rattle.sheet.specs.declared.Task.{Task as Record}
-use Rattle.admission.proofs.Records.{records-in}
+use Rattle.sheet.proofs.Records.{records-used}
 use Rattle.admission.proofs.Answers.{tasks-left, tasks-all, tasks-pass, tasks-refuse, tasks-end}
 use borrow.Author.Needs.{needs}
 use Rattle.admission.proofs.admit_tasks.Statement.{statement}
 use Rattle.admission.proofs.admit_tasks.Tie as tie
 
 abbrev Inv-loop : tie.InvT-loop
-Inv-loop set count i₀ i =
-    (i ≤ count) × (tasks-left (set .tasks) count i ≡ decided (task-checks 0 (map task-in (records-of set))))
+Inv-loop tasks count i₀ i = (i ≤ count) × (tasks-left tasks count i ≡ tasks-left tasks count 0)
 
 abbrev μ-loop : tie.MeasureT-loop
-μ-loop set count i₀ i = count - i
+μ-loop tasks count i₀ i = count - i
 
--- the records in use are there
-there : (c : tie.After-in-use Inv-loop μ-loop) → c .in-use .result ≤ length (c .before .before .before .args .t1 .tasks)
+-- the records in use are there, and are those of the set
+there : (c : tie.After-tasks-in Inv-loop μ-loop) → c .tasks-in .result ≤ length (c .before .before .args .set .tasks)
 there c = omega arith
 
-task-places-requires : tie.Need-task-places-requires Inv-loop μ-loop
-task-places-requires c κs = search needs
+whole : (c : tie.After-tasks-in Inv-loop μ-loop) → let s = c .before .before .args .set in tasks-left (s .tasks) (c .tasks-in .result) 0 ≡ decided (task-checks 0 (map task-in (records-of s)))
+whole c = tasks-all _ _ ∙ ap (λ (rs : List Record). decided (task-checks 0 (map task-in rs))) (records-used (c .before .before .args .set) _ (c .tasks-in .ensures))
 
-in-use-requires : tie.Need-in-use-requires Inv-loop μ-loop
-in-use-requires c κs = search needs
+tasks-in-requires : tie.Need-tasks-in-requires Inv-loop μ-loop
+tasks-in-requires c κs = search needs
 
 loop-holds : tie.Need-loop-holds Inv-loop μ-loop
-loop-holds c =
-    let s = c .before .before .before .args .t1 in (
-      search needs,
-      tasks-all _ _ ∙ ap (λ (rs : List Record). decided (task-checks 0 (map task-in rs))) (records-in s _ _ (c .before .task-places .ensures) (c .in-use .ensures)),
-    )
+loop-holds c = (search needs, refl)
 
 mul-task : tie.Need-mul-task Inv-loop μ-loop
 mul-task c = search needs
 
-element-copy-out-task : tie.Need-element-copy-out-task Inv-loop μ-loop
-element-copy-out-task c = search needs
+array-copy-out-task : tie.Need-array-copy-out-task Inv-loop μ-loop
+array-copy-out-task c = search needs
 
 cast-task-answer : tie.Need-cast-task-answer Inv-loop μ-loop
 cast-task-answer c = search needs
@@ -57,6 +52,7 @@ returns c =
     let at = c .before .before .before .before .before .before in
     sym (tasks-refuse _ _ (there (at .before)) _ _ (c .before .before .before .before .before .loop-test .taken) _ (c .before .before .before .task-answer .ensures) _ (c .before .answer .given .1))
     ∙ at .loop .inv .1
+    ∙ whole (at .before)
 
 enum-told : tie.Need-enum-told Inv-loop μ-loop
 enum-told c = search needs
@@ -68,14 +64,14 @@ loop-less : tie.Need-loop-less Inv-loop μ-loop
 loop-less c = search needs
 
 loop-again : tie.Need-loop-again Inv-loop μ-loop
-loop-again c =
+loop-again c = 
     let at = c .before .before .before .before .before in (
       search needs,
       tasks-pass _ _ (there (at .before)) _ _ (c .before .before .before .before .loop-test .taken) _ (c .before .before .task-answer .ensures) (c .enum-told .given .1) ∙ at .loop .inv .1,
     )
 
 returns-2 : tie.Need-returns-2 Inv-loop μ-loop
-returns-2 c = sym (tasks-end _ _ (there (c .before .before)) _ (c .loop-test .left)) ∙ c .before .loop .inv .1
+returns-2 c = sym (tasks-end _ _ (there (c .before .before)) _ (c .loop-test .left)) ∙ c .before .loop .inv .1 ∙ whole (c .before .before)
 
 pub admit-tasks-spec : {M : Type 1} → statement M
 admit-tasks-spec =
@@ -83,11 +79,10 @@ admit-tasks-spec =
     (tie.spec
     Inv-loop
     μ-loop
-    task-places-requires
-    in-use-requires
+    tasks-in-requires
     loop-holds
     mul-task
-    element-copy-out-task
+    array-copy-out-task
     cast-task-answer
     task-answer-requires
     enum-known-answer

@@ -61,11 +61,11 @@ returns c =
     (sum-more _ _ _ _ _ _ _ there (at .loop .inv .2) (c .before .wide2 .ensures .0))
     (c .if1 .taken)) ∙ at .loop .inv .3
 
-next-requires : tie.Need-next-requires Inv-loop μ-loop
-next-requires c κs = search needs
+next-frame-requires : tie.Need-next-frame-requires Inv-loop μ-loop
+next-frame-requires c κs = search needs
 
-next-requires-2 : tie.Need-next-requires-2 Inv-loop μ-loop
-next-requires-2 c κs = search needs
+next-frame-requires-2 : tie.Need-next-frame-requires-2 Inv-loop μ-loop
+next-frame-requires-2 c κs = search needs
 
 add-n : tie.Need-add-n Inv-loop μ-loop
 add-n c = search needs
@@ -81,8 +81,8 @@ loop-again c =
     let there : at .before .args .count ≤ length (now (at .before .args .frames)) = omega arith in
     let shorter : at .loop .n < at .before .args .count = omega arith in (
       search needs,
-      summed-more _ _ _ _ _ _ _ there (at .loop .inv .1) (after .wide .ensures .0) _ (after .wide .ensures .1) (c .before .next .ensures),
-      summed-more _ _ _ _ _ _ _ there (at .loop .inv .2) (wide2 .ensures .0) _ (wide2 .ensures .1) (c .next2 .ensures),
+      summed-more _ _ _ _ _ _ _ there (at .loop .inv .1) (after .wide .ensures .0) _ (after .wide .ensures .1) (c .before .next-frame .ensures),
+      summed-more _ _ _ _ _ _ _ there (at .loop .inv .2) (wide2 .ensures .0) _ (wide2 .ensures .1) (c .next-frame2 .ensures),
       left-passes _ _ _ _ (at .loop .n) _ _ shorter
           (sum-more _ _ _ _ _ _ _ there (at .loop .inv .1) (after .wide .ensures .0))
           (sum-more _ _ _ _ _ _ _ there (at .loop .inv .2) (wide2 .ensures .0))
@@ -108,8 +108,8 @@ at-least-spec =
     wide-requires-2
     add-sum-k
     returns
-    next-requires
-    next-requires-2
+    next-frame-requires
+    next-frame-requires-2
     add-n
     loop-less
     loop-again

@@ -7,57 +7,49 @@ use lib.ListN.{length}
 use Rattle.sheet.specs.Tasks.{records-of}
 use Rattle.sheet.specs.Admission.{decided, frame-count-checks}
 use Rattle.sheet.specs.declared.Task.{Task as Record}
-use Rattle.admission.proofs.Records.{records-in}
-use Rattle.admission.proofs.Answers.{counts-left, counts-all, counts-zero, counts-over, counts-pass, counts-end}
+use Rattle.sheet.proofs.Records.{records-used}
+use Rattle.admission.proofs.Answers.{counts-left, counts-all, counts-refuse, counts-pass, counts-end}
 use borrow.Author.Needs.{needs}
 use Rattle.admission.proofs.frame_counts.Statement.{statement}
 use Rattle.admission.proofs.frame_counts.Tie as tie
 
 abbrev Inv-loop : tie.InvT-loop
-Inv-loop set count i₀ i =
-    (i ≤ count) × (counts-left (set .tasks) count i ≡ decided (frame-count-checks 0 (records-of set)))
+Inv-loop tasks count i₀ i = (i ≤ count) × (counts-left tasks count i ≡ counts-left tasks count 0)
 
 abbrev μ-loop : tie.MeasureT-loop
-μ-loop set count i₀ i = count - i
+μ-loop tasks count i₀ i = count - i
 
--- the records in use are there
-there : (c : tie.After-in-use Inv-loop μ-loop) → c .in-use .result ≤ length (c .before .before .before .args .t1 .tasks)
+-- the records in use are there, and are those of the set
+there : (c : tie.After-tasks-in Inv-loop μ-loop) → c .tasks-in .result ≤ length (c .before .before .args .set .tasks)
 there c = omega arith
 
-task-places-requires : tie.Need-task-places-requires Inv-loop μ-loop
-task-places-requires c κs = search needs
+whole : (c : tie.After-tasks-in Inv-loop μ-loop) → let s = c .before .before .args .set in counts-left (s .tasks) (c .tasks-in .result) 0 ≡ decided (frame-count-checks 0 (records-of s))
+whole c = counts-all _ _ ∙ ap (λ (rs : List Record). decided (frame-count-checks 0 rs)) (records-used (c .before .before .args .set) _ (c .tasks-in .ensures))
 
-in-use-requires : tie.Need-in-use-requires Inv-loop μ-loop
-in-use-requires c κs = search needs
+tasks-in-requires : tie.Need-tasks-in-requires Inv-loop μ-loop
+tasks-in-requires c κs = search needs
 
 loop-holds : tie.Need-loop-holds Inv-loop μ-loop
-loop-holds c =
-    let s = c .before .before .before .args .t1 in (
-      search needs,
-      counts-all _ _ ∙ ap (λ (rs : List Record). decided (frame-count-checks 0 rs)) (records-in s _ _ (c .before .task-places .ensures) (c .in-use .ensures)),
-    )
+loop-holds c = (search needs, refl)
 
 mul-task : tie.Need-mul-task Inv-loop μ-loop
 mul-task c = search needs
 
-element-copy-out-task : tie.Need-element-copy-out-task Inv-loop μ-loop
-element-copy-out-task c = search needs
+array-copy-out-task : tie.Need-array-copy-out-task Inv-loop μ-loop
+array-copy-out-task c = search needs
 
-cast-t15 : tie.Need-cast-t15 Inv-loop μ-loop
-cast-t15 c = search needs
+miscounted-requires : tie.Need-miscounted-requires Inv-loop μ-loop
+miscounted-requires c κs = search needs
+
+cast-t14 : tie.Need-cast-t14 Inv-loop μ-loop
+cast-t14 c = search needs
 
 returns : tie.Need-returns Inv-loop μ-loop
 returns c =
-    let at = c .before .before .before in
-    counts-zero _ _ (there (at .before)) _ _ (c .before .before .loop-test .taken) _ refl (c .if1 .taken) ∙ at .loop .inv .1
-
-cast-t17 : tie.Need-cast-t17 Inv-loop μ-loop
-cast-t17 c = search needs
-
-returns-2 : tie.Need-returns-2 Inv-loop μ-loop
-returns-2 c =
     let at = c .before .before .before .before in
-    counts-over _ _ (there (at .before)) _ _ (c .before .before .before .loop-test .taken) _ refl (c .before .if1 .left) (c .if2 .taken) ∙ at .loop .inv .1
+    counts-refuse _ _ (there (at .before)) _ _ (c .before .before .before .loop-test .taken) _ refl (sym (c .before .miscounted .ensures) ∙ c .if1 .taken)
+    ∙ at .loop .inv .1
+    ∙ whole (at .before)
 
 add-i : tie.Need-add-i Inv-loop μ-loop
 add-i c = search needs
@@ -66,14 +58,14 @@ loop-less : tie.Need-loop-less Inv-loop μ-loop
 loop-less c = search needs
 
 loop-again : tie.Need-loop-again Inv-loop μ-loop
-loop-again c =
+loop-again c = 
     let at = c .before .before .before .before in (
       search needs,
-      counts-pass _ _ (there (at .before)) _ _ (c .before .before .before .loop-test .taken) _ refl (c .before .if1 .left) (c .if2 .left) ∙ at .loop .inv .1,
+      counts-pass _ _ (there (at .before)) _ _ (c .before .before .before .loop-test .taken) _ refl (sym (c .before .miscounted .ensures) ∙ c .if1 .left) ∙ at .loop .inv .1,
     )
 
-returns-3 : tie.Need-returns-3 Inv-loop μ-loop
-returns-3 c = sym (counts-end _ _ (there (c .before .before)) _ (c .loop-test .left)) ∙ c .before .loop .inv .1
+returns-2 : tie.Need-returns-2 Inv-loop μ-loop
+returns-2 c = sym (counts-end _ _ (there (c .before .before)) _ (c .loop-test .left)) ∙ c .before .loop .inv .1 ∙ whole (c .before .before)
 
 pub frame-counts-spec : {M : Type 1} → statement M
 frame-counts-spec =
@@ -81,16 +73,14 @@ frame-counts-spec =
     (tie.spec
     Inv-loop
     μ-loop
-    task-places-requires
-    in-use-requires
+    tasks-in-requires
     loop-holds
     mul-task
-    element-copy-out-task
-    cast-t15
+    array-copy-out-task
+    miscounted-requires
+    cast-t14
     returns
-    cast-t17
-    returns-2
     add-i
     loop-less
     loop-again
-    returns-3)
+    returns-2)

@@ -10,7 +10,7 @@ use Rattle.sheet.specs.Tasks.{task-in}
 use Rattle.admission.specs.Frames.{of-frames}
 use Rattle.admission.specs.Start.{start-of}
 use Rattle.admission.proofs.Sums.{count-is}
-use Rattle.admission.proofs.Records.{frames-in}
+use Rattle.sheet.proofs.Records.{frames-used}
 use Rattle.admission.proofs.Starts.{starts-left, starts-all, starts-pass, starts-fail, starts-end, start-of-frames}
 use borrow.Author.Needs.{needs}
 use Rattle.admission.proofs.start_frame.Statement.{statement}
@@ -26,28 +26,25 @@ abbrev μ-loop : tie.MeasureT-loop
 μ-loop frames count s₀ s = count - s
 
 -- the frames in use are all that the start depends on
-same : (c : tie.After-in-use Inv-loop μ-loop)
-    → let r = c .before .before .before .args .task in start-of (of-frames (take (c .in-use .result) (r .frames))) ≡ start-of (task-in r)
+same : (c : tie.After-frames-in Inv-loop μ-loop)
+    → let r = c .before .before .args .task in start-of (of-frames (take (c .frames-in .result) (r .frames))) ≡ start-of (task-in r)
 same c =
-    let r = c .before .before .before .args .task in
-    ap (λ (fs : List ℕ). start-of (of-frames fs)) (frames-in r _ _ (c .before .frame-places .ensures) (c .in-use .ensures)) ∙ start-of-frames (task-in r)
+    let r = c .before .before .args .task in
+    ap (λ (fs : List ℕ). start-of (of-frames fs)) (frames-used r _ (c .frames-in .ensures)) ∙ start-of-frames (task-in r)
 
-frame-places-requires : tie.Need-frame-places-requires Inv-loop μ-loop
-frame-places-requires c κs = search needs
-
-in-use-requires : tie.Need-in-use-requires Inv-loop μ-loop
-in-use-requires c κs = search needs
+frames-in-requires : tie.Need-frames-in-requires Inv-loop μ-loop
+frames-in-requires c κs = search needs
 
 loop-holds : tie.Need-loop-holds Inv-loop μ-loop
 loop-holds c =
-    let there : c .in-use .result ≤ length (c .before .before .before .args .task .frames) = omega arith in
+    let there : c .frames-in .result ≤ length (c .before .before .args .task .frames) = omega arith in
     (search needs, starts-all _ _ (count-is _ _ there))
 
 qualifies-requires : tie.Need-qualifies-requires Inv-loop μ-loop
-qualifies-requires c κs = (c .before .before .before .before .frame-places .ensures .1, omega arith, c .before .loop-test .taken)
+qualifies-requires c κs = (c .before .before .before .frames-in .ensures .1, omega arith, c .before .loop-test .taken)
 
-cast-t10 : tie.Need-cast-t10 Inv-loop μ-loop
-cast-t10 c = search needs
+cast-t9 : tie.Need-cast-t9 Inv-loop μ-loop
+cast-t9 c = search needs
 
 returns : tie.Need-returns Inv-loop μ-loop
 returns c =
@@ -74,11 +71,10 @@ start-frame-spec =
     (tie.spec
     Inv-loop
     μ-loop
-    frame-places-requires
-    in-use-requires
+    frames-in-requires
     loop-holds
     qualifies-requires
-    cast-t10
+    cast-t9
     returns
     add-s
     loop-less

@@ -3,7 +3,7 @@ use mathlib.Core.Path.{sym, ap, _∙_}
 use native.Mathlib.Omega.{arith}
 use Rattle.sheet.specs.Tasks.{task-in}
 use Rattle.admission.specs.Frames.{all-between}
-use Rattle.admission.proofs.Records.{frames-in}
+use Rattle.sheet.proofs.Records.{frames-used}
 use Rattle.admission.proofs.Fits.{turned-away, frames-decide}
 use borrow.Author.Needs.{needs}
 use Rattle.admission.proofs.well_formed.Statement.{statement}
@@ -25,21 +25,18 @@ returns-4 : tie.Need-returns-4
 unfolding task-in
 returns-4 c = sym (turned-away _ (λ f. omega arith))
 
-frame-places-requires : tie.Need-frame-places-requires
-frame-places-requires c κs = search needs
-
-in-use-requires : tie.Need-in-use-requires
-in-use-requires c κs = search needs
+frames-in-requires : tie.Need-frames-in-requires
+frames-in-requires c κs = search needs
 
 frames-between-requires : tie.Need-frames-between-requires
-frames-between-requires c κs = (c .before .before .frame-places .ensures .1, omega arith)
+frames-between-requires c κs = (c .before .frames-in .ensures .1, omega arith)
 
 returns-5 : tie.Need-returns-5
 unfolding task-in
 returns-5 c =
-    let r = c .before .before .before .before .before .before .before .before .before .before .args .task in
+    let r = c .before .before .before .before .before .before .before .before .before .args .task in
     c .frames-between .ensures
-    ∙ ap (all-between 1 (r .deadline)) (frames-in r _ _ (c .before .before .before .frame-places .ensures) (c .before .before .in-use .ensures))
+    ∙ ap (all-between 1 (r .deadline)) (frames-used r _ (c .before .before .frames-in .ensures))
     ∙ frames-decide (task-in r) (omega arith) (omega arith) (omega arith) (omega arith)
 
 pub well-formed-spec : {M : Type 1} → statement M
@@ -50,7 +47,6 @@ well-formed-spec =
     returns-2
     returns-3
     returns-4
-    frame-places-requires
-    in-use-requires
+    frames-in-requires
     frames-between-requires
     returns-5)
