@@ -46,6 +46,13 @@ module _ {R A X : Type 0} (full : R) (refused : R → X) (call : Call R A X) (pl
       let n : refusal-of full call places ≡ none = none-first (call .checks) _ e ∙ passed-over _ full [] (le-ltb (length places) (length (call .writes)) h) ∙ no-check in
       record { admitted = e; room = h; answer = rw (n, answered); holds = rw (n, left-after) }
 
+  -- what a call that is turned away or done has to answer and to leave
+  pub turned-tells : {r : R} → TurnedAway r → (refused r ≡ answered full refused call places) × (places ≡ left-after full call places)
+  turned-tells t = (sym (t .answer), sym (t .unchanged))
+
+  pub done-tells : Done → (call .says ≡ answered full refused call places) × (laid (call .writes) places ≡ left-after full call places)
+  done-tells d = (sym (d .answer), sym (d .holds))
+
   -- there is no third way
   pub data Told : Type 0 where
     turned-away : (r : R) → TurnedAway r → Told

@@ -12,9 +12,9 @@ use Rattle.sheet.specs.Fields.{total, header-widths}
 use Rattle.sheet.specs.Tasks.{record-of, set-with}
 use Rattle.sheet.specs.Layout.{header-in, records-in, frame-count-in, record-width, task-at-start, tasks-in}
 use Rattle.lent.specs.Checks.{Check, _⇒_}
-use Rattle.sheet.specs.Admission.{decided, policy-check, task-count-check, frame-count-check}
+use Rattle.sheet.specs.Admission.{decided, known-policy, policy-check, task-count-check, frame-count-check}
 use Rattle.sheet.specs.Reading.{layout-checks}
-use Rattle.sheet.proofs.Checks.{applies, passed-over}
+use Rattle.sheet.proofs.Checks.{applies, passed-over, no-check}
 use Rattle.sheet.specs.declared.Answer.{Answer}
 use Rattle.sheet.specs.declared.Answer.the-variants.{Admitted, Refused}
 use Rattle.sheet.specs.declared.Refusal.{Refusal}
@@ -22,7 +22,6 @@ use Rattle.sheet.specs.declared.Refusal.the-variants.{Version, Policy, BitSet, 
 use Rattle.sheet.specs.declared.Task.{Task as Record}
 use Rattle.reader.specs.Parts.{turned-away, reading-of, record-checks, nothing-found, found-by, found-at, records-reading, body-checks, set-in, body-reading}
 use Rattle.reader.specs.declared.Found.{Found}
-use Rattle.reader.proofs.Fill.{nothing-applies}
 use Rattle.reader.proofs.Unpacking.{number-in, total-equal}
 
 -- the test "0 or over" a limit
@@ -84,7 +83,7 @@ module _ (i at : ℕ) (bs : List Bool) where
             let e-next : next ≡ at + record-width bs = omega (arith, record-width-is bs) in
             (λ k. record { answer = Admitted; next = e-next k; task = et k })
             ∙ sym (ap (λ (a : Answer). found-by a at bs)
-            (to-frames ∙ passed-over _ Records [] (le-ltb (length bs) (record-width bs) (omega (arith, record-width-is bs))) ∙ nothing-applies))
+            (to-frames ∙ passed-over _ Records [] (le-ltb (length bs) (record-width bs) (omega (arith, record-width-is bs))) ∙ no-check))
 
 -- ---- the header
 
@@ -130,14 +129,14 @@ module _ (bs : List Bool) where
     unfolding body-checks from-policy from-spare from-task-count from-records
     to-policy = passed-over _ Version _ (ap not (eq-eqb _ 1 v))
 
-    pub policy-wrong : 2 < header-in bs .policy → turned-away Policy ≡ body-reading bs
+    pub policy-wrong : known-policy (header-in bs .policy) ≡ false → turned-away Policy ≡ body-reading bs
     unfolding from-policy policy-check
-    policy-wrong h = body-refused Policy (to-policy ∙ applies _ Policy _ (lt-ltb 2 _ h))
+    policy-wrong e = body-refused Policy (to-policy ∙ applies _ Policy _ (ap not e))
 
-    module _ (p : header-in bs .policy ≤ 2) where
+    module _ (p : known-policy (header-in bs .policy) ≡ true) where
       to-spare : decided (body-checks bs) ≡ decided from-spare
       unfolding from-policy policy-check
-      to-spare = to-policy ∙ passed-over _ Policy _ (le-ltb 2 _ p)
+      to-spare = to-policy ∙ passed-over _ Policy _ (ap not p)
 
       pub spare-set : (header-in bs .spare ≡ 0 → ⊥) → turned-away BitSet ≡ body-reading bs
       unfolding from-spare

@@ -13,7 +13,7 @@ use Rattle.bits.specs.Packed.{value, bits-of, field}
 use Rattle.bits.proofs.Laws.{length-bits}
 use Rattle.sheet.specs.Admission.{decided}
 use Rattle.sheet.specs.Reading.{some-set, layout-checks}
-use Rattle.sheet.proofs.Checks.{applies, passed-over}
+use Rattle.sheet.proofs.Checks.{applies, passed-over, no-check}
 use Rattle.sheet.specs.declared.Answer.the-variants.{Admitted, Refused}
 use Rattle.sheet.specs.declared.Refusal.the-variants.{Records, BitSet}
 
@@ -34,10 +34,6 @@ set-by-value (false ∷ bs) =
     let same : value bs ≡ 0 * 2 ^ length bs + value bs = omega arith in
     set-by-value bs ∙ ap (λ (n : ℕ). not (eqb n 0)) same
 
-pub nothing-applies : decided [] ≡ Admitted
-unfolding decided
-nothing-applies = refl
-
 module _ (i : ℕ) (bs : List Bool) where
   pub bits-left : 8 ≤ length bs → Refused Records ≡ decided (layout-checks i 0 bs)
   unfolding layout-checks
@@ -55,7 +51,7 @@ module _ (i : ℕ) (bs : List Bool) where
     fill-clear e =
         sym (passed-over (leb 8 (length bs)) Records _ (lt-leb 8 (length bs) h)
         ∙ passed-over (some-set bs) BitSet [] (set-by-value bs ∙ ap not (eq-eqb (value bs) 0 e))
-        ∙ nothing-applies)
+        ∙ no-check)
 
 pub no-bits : (bs : List Bool) → length bs ≡ 0 → value bs ≡ 0
 unfolding value

@@ -12,10 +12,10 @@ use Rattle.bits.specs.Packed.{bits-of}
 use Rattle.sheet.specs.Fields.{total}
 use Rattle.sheet.specs.Tasks.{record-of, blank-record, set-with}
 use Rattle.sheet.specs.Layout.{records-in, record-width, task-at-start, tasks-in}
-use Rattle.lent.specs.Checks.{Check, _⇒_}
+use Rattle.lent.specs.Checks.{Check}
 use Rattle.sheet.specs.Admission.{decided}
 use Rattle.sheet.specs.Reading.{layout-checks}
-use Rattle.sheet.proofs.Checks.{admitted-first, refused-first}
+use Rattle.sheet.proofs.Checks.{admitted-first, refused-first, passed}
 use Rattle.sheet.specs.declared.Answer.{Answer}
 use Rattle.sheet.specs.declared.Answer.the-variants.{Admitted, Refused}
 use Rattle.sheet.specs.declared.Reading.{Reading}
@@ -69,14 +69,9 @@ recorded-more n bs h =
 
 -- ---- checks that admit
 
-head-admits : (b : Bool) (why : Refusal) (cs : List (Check Refusal)) → decided ((b ⇒ why) ∷ cs) ≡ Admitted → (b ≡ false) × (decided cs ≡ Admitted)
-unfolding decided
-head-admits true why cs e = let z : _≡_ {A = ℕ} 0 1 = cc in let no-way : ⊥ = omega arith in absurd no-way
-head-admits false why cs e = (refl, e)
-
 pub record-fits : (i : ℕ) (bs : List Bool) → decided (record-checks i bs) ≡ Admitted → record-width bs ≤ length bs
 unfolding record-checks
-record-fits i bs e = ltb-false (length bs) (record-width bs) (head-admits _ _ _ (head-admits _ _ _ (head-admits _ _ _ e .1) .1) .0)
+record-fits i bs e = ltb-false (length bs) (record-width bs) (passed _ _ (passed _ _ (passed _ _ e .1) .1) .0)
 
 pub found-answer : (a : Answer) (at : ℕ) (bs : List Bool) → found-by a at bs .answer ≡ a
 unfolding found-by nothing-found

@@ -1,9 +1,7 @@
 // The reader: sheet bytes to a set, or the one refusal.
-ghost use mathlib.Core.Bool.{_||_};
 ghost use mathlib.Core.Path.{_≡_};
 ghost use mathlib.Core.List.{_++_};
 ghost use Prim.Native.Nat.{_+_, _-_, _*_, _≤_};
-ghost use lib.Dec.{eqb, ltb};
 ghost use lib.ListN.{length, drop, replicate};
 ghost use Rattle.bits.specs.Packed.{value, bits-of, field};
 ghost use Rattle.sheet.specs.Constants.{time-width, most-tasks, most-frames, greatest-size};
@@ -66,16 +64,6 @@ fn not_found(why: Refusal) -> Found
     }
 }
 
-// Whether a count is 0 or over its limit.
-fn miscounted(n: u32, most: u32) -> bool
-    ensures { λ r. ⌜ r ≡ (eqb n 0 || ltb most n) ⌝ }
-{
-    if n == 0 {
-        return true;
-    }
-    most < n
-}
-
 // The number in a field that lies in the body.
 fn number_at(body: &[u8], at: usize, width: usize) -> u32
     requires { ⌜ (1 ≤ width) × (width ≤ 32) × (at + width ≤ 8 * length (now body)) ⌝ }
@@ -127,7 +115,7 @@ fn read_record(body: &[u8], at: usize, i: u32) -> Found
         return not_found(Refusal::Records);
     }
     let count = number_at(body, at + FRAME_COUNT_AT, Sheet::FRAME_COUNT_WIDTH);
-    if miscounted(count, Sheet::MOST_FRAMES) {
+    if sheet::miscounted(count, Sheet::MOST_FRAMES) {
         return not_found(Refusal::FrameCount(i));
     }
     let next = at + FIXED_WIDTH + Sheet::TIME_WIDTH * (count as usize);
@@ -201,7 +189,7 @@ fn read_body(body: &[u8]) -> Reading
         return refused(Refusal::Version);
     }
     let policy = number_at(body, POLICY_AT, Sheet::POLICY_WIDTH);
-    if Sheet::DEADLINE_MONOTONIC < policy {
+    if !sheet::known_policy(policy) {
         return refused(Refusal::Policy);
     }
     let spare = number_at(body, SPARE_AT, Sheet::SPARE_WIDTH);
@@ -209,7 +197,7 @@ fn read_body(body: &[u8]) -> Reading
         return refused(Refusal::BitSet);
     }
     let count = number_at(body, TASK_COUNT_AT, Sheet::TASK_COUNT_WIDTH);
-    if miscounted(count, Sheet::MOST_TASKS) {
+    if sheet::miscounted(count, Sheet::MOST_TASKS) {
         return refused(Refusal::TaskCount);
     }
     read_records(body, policy, count)

@@ -14,7 +14,7 @@ use Rattle.sheet.specs.declared.TaskSet.{TaskSet}
 use Rattle.sheet.specs.declared.Answer.the-variants.{Admitted}
 use Rattle.sheet.proofs.Checks.{passed, both-passed}
 use Rattle.sheet.proofs.Carried.{by-admission, count-in-use}
-use Rattle.sheet.proofs.Counts.{count-passed}
+use Rattle.sheet.proofs.Counts.{count-passed, known-small}
 
 -- what the fields of a record in use need
 pub record Ready (r : Record) : Type 0 where
@@ -37,7 +37,7 @@ ranges-in k (r ∷ rs) e (suc i) d h = ranges-in (suc k) rs (passed _ _ (passed 
 -- an admitted set, whose array has its sixteen places
 module _ (s : TaskSet) (e : admission s ≡ Admitted) (long : length (s .tasks) ≡ most-tasks) where
   pub policy-in : s .policy ≤ deadline-monotonic
-  policy-in = by-admission s long e .policy-known
+  policy-in = known-small (s .policy) (by-admission s long e .policy-known)
 
   pub tasks-in : s .«task_count» ≤ most-tasks
   tasks-in = rw (← count-in-use s long e) (by-admission s long e .few-tasks)

@@ -5,6 +5,7 @@ use Prim.Native.Nat.{ℕ}
 use lib.ListN.{drop}
 use lib.Seq.{length-take-le}
 use denote.Ref.{now}
+use Rattle.lent.specs.Lent.{laid}
 use Rattle.sheet.specs.Admission.{admission}
 use Rattle.sheet.specs.declared.Answer.the-variants.{Admitted}
 use Rattle.sheet.specs.declared.Written.the-variants.{Bytes}
@@ -48,6 +49,7 @@ same-length : tie.Need-same-length
 same-length c = search needs
 
 returns-3 : tie.Need-returns-3
+unfolding laid
 returns-3 c =
     let z = c .before .before .before .before .before in
     let a = z .before .before .before .before .before in
