@@ -13,6 +13,9 @@ use Rattle.theory.specs.Tasks.{Task, task-at, frame-count, Admitted as IsAdmitt
 use Rattle.theory.specs.Analysis.{verdict}
 use Rattle.sheet.specs.Tasks.{task-in, records-of, set-with}
 use Rattle.lent.specs.Checks.{Check}
+use Rattle.lent.specs.Lent.{Call, laid, answered, left-after}
+use Rattle.lent.proofs.Lent.{by-checks, by-room, done, turned-tells, done-tells}
+use Rattle.sheet.specs.Constants.{most-tasks, most-frames}
 use Rattle.sheet.specs.Admission.{decided, list-checks, admission}
 use Rattle.sheet.specs.Reading.{sheet-checks, policy-of, tasks-of, reading}
 use Rattle.sheet.specs.declared.TaskSet.{TaskSet}
@@ -22,7 +25,7 @@ use Rattle.sheet.specs.declared.Answer.the-variants.{Admitted}
 use Rattle.sheet.specs.declared.Answer.the-variants.{Refused as refused}
 use Rattle.sheet.specs.declared.Refusal.{Refusal}
 use Rattle.sheet.specs.declared.Refusal.the-variants.{Room}
-use Rattle.sheet.proofs.Checks.{applies, passed-over, admitted-first, refused-first}
+use Rattle.sheet.proofs.Checks.{none-applies, one-applies}
 use Rattle.sheet.proofs.Records.{tasks-with}
 use Rattle.sheet.proofs.InFields.{Each, no-task, task-more, FramesCounted}
 use Rattle.sheet.proofs.Carried.{Carried, by-admission, count-in-use, by-reading, reading-answer, admitted-reading}
@@ -34,7 +37,7 @@ use Rattle.order.specs.declared.Ordered.{Ordered}
 use Rattle.order.proofs.Laws.{ordered-length, ordered-at, ordered-admitted, ordered-tasks, ordered-count, order-of-length}
 use Rattle.analysis.specs.Times.{verdict-number, outcome-of, places-from, times-of}
 use Rattle.analysis.specs.Ready.{Ready, numbers-of, all-times}
-use Rattle.analysis.specs.Answers.{outcome-by, refused-analysis, analysis-by, set-analysis, sheet-analysis, room-check, left-by, set-answer, set-outcome, set-left, sheet-answer, sheet-outcome, sheet-left}
+use Rattle.analysis.specs.Answers.{refused-analysis, analysis-by, set-analysis, sheet-analysis, analysing, set-analysing, set-outcome, set-left, sheet-analysing, sheet-outcome, sheet-left}
 use Rattle.analysis.specs.Delivery.{delivered-outcome, delivered}
 use Rattle.analysis.specs.declared.Outcome.{Outcome}
 use Rattle.analysis.specs.declared.Outcome.the-variants.{Refused}
@@ -89,70 +92,60 @@ module _ (s : TaskSet) (room : length (s .tasks) ≡ 16) (e : admission s ≡ Ad
 
 -- ---- lent numbers
 
-unroomed : (r : Refusal) (policy : ℕ) (tasks : List Task) (room : List ℕ)
-    → (delivered-outcome (analysis-by (refused r) policy tasks) (length room) ≡ Refused r) × (delivered (analysis-by (refused r) policy tasks) room ≡ room)
-unfolding delivered-outcome delivered analysis-by refused-analysis
-unroomed r policy tasks room = rw (le-ltb (length room) 0 zero-le) (refl, refl)
+-- What an analysis by value delivers is what the call answers and leaves: of tasks that the checks turn away or not, with eight times to a task.
+module _ (cs : List (Check Refusal)) (policy : ℕ) (tasks : List Task) (room : List ℕ)
+    (long : decided cs ≡ Admitted → length (times-of policy tasks) ≡ most-frames * length tasks) where
+  abbrev call : Call Refusal ℕ Outcome
+  call = analysing cs policy tasks
 
-no-place : (policy : ℕ) (tasks : List Task) (room : List ℕ) → length room < 8 * length tasks
-    → (delivered-outcome (analysis-by Admitted policy tasks) (length room) ≡ Refused Room) × (delivered (analysis-by Admitted policy tasks) room ≡ room)
-unfolding delivered-outcome delivered analysis-by
-no-place policy tasks room h = rw (lt-ltb (length room) (8 * length tasks) h) (refl, refl)
+  abbrev Delivers : Answer → Type 0
+  Delivers a =
+      (delivered-outcome (analysis-by a policy tasks) (length room) ≡ answered Room Refused call room)
+      × (delivered (analysis-by a policy tasks) room ≡ left-after Room call room)
 
-placed-well : (policy : ℕ) (tasks : List Task) (room : List ℕ) → 8 * length tasks ≤ length room → length (times-of policy tasks) ≡ 8 * length tasks
-    → (delivered-outcome (analysis-by Admitted policy tasks) (length room) ≡ outcome-of policy tasks)
-    × (delivered (analysis-by Admitted policy tasks) room ≡ times-of policy tasks ++ drop (8 * length tasks) room)
-unfolding delivered-outcome delivered analysis-by
-placed-well policy tasks room h l =
-    rw (le-ltb (length room) (8 * length tasks) h) (refl, ap (λ (x : List ℕ). x ++ drop (8 * length tasks) room) (take-at (times-of policy tasks) _ (8 * length tasks) l))
+  refused-so : (r : Refusal) → decided cs ≡ refused r → Delivers (refused r)
+  unfolding delivered-outcome delivered analysis-by refused-analysis analysing
+  refused-so r e = rw (le-ltb (length room) 0 zero-le) (turned-tells Room Refused call room (by-checks Room Refused call room r (one-applies cs r e)))
 
-pub none-applies : decided [] ≡ Admitted
-unfolding decided
-none-applies = refl
+  module _ (e : decided cs ≡ Admitted) where
+    no-place : length room < most-frames * length tasks → Delivers Admitted
+    unfolding delivered-outcome delivered analysis-by analysing
+    no-place h =
+        rw (lt-ltb (length room) (most-frames * length tasks) h)
+        (turned-tells Room Refused call room (by-room Room Refused call room (none-applies cs e) (rw (long e) h)))
 
--- checks that answer so, and last the room for the times of n tasks
-module _ (cs : List (Check Refusal)) (policy n : ℕ) (tasks : List Task) (room : List ℕ)
-    (count : decided cs ≡ Admitted → n ≡ length tasks) (long : decided cs ≡ Admitted → length (times-of policy tasks) ≡ 8 * length tasks) where
-  abbrev last : Answer
-  last = decided (cs ++ room-check (length room) n ∷ [])
+    placed-well : most-frames * length tasks ≤ length room → Delivers Admitted
+    unfolding delivered-outcome delivered analysis-by analysing laid
+    placed-well h =
+        let d = done-tells Room Refused call room (done Room Refused call room (none-applies cs e) (rw (long e) h)) in
+        rw (le-ltb (length room) (most-frames * length tasks) h, take-at (times-of policy tasks) _ (most-frames * length tasks) (long e))
+        (d .0, rw (long e) at (d .1))
 
-  pub delivery : (delivered-outcome (analysis-by (decided cs) policy tasks) (length room) ≡ outcome-by last policy tasks)
-      × (delivered (analysis-by (decided cs) policy tasks) room ≡ left-by last policy tasks room)
-  unfolding outcome-by left-by room-check
+  pub delivery : Delivers (decided cs)
   delivery = go (decided cs) refl
     where
-      full : decided cs ≡ Admitted → length room < 8 * n → last ≡ refused Room
-      full e h = admitted-first cs _ e ∙ applies _ Room [] (lt-ltb (length room) (8 * n) h)
+      roomy : decided cs ≡ Admitted → Dec (length room < most-frames * length tasks) → Delivers Admitted
+      roomy e (yes h) = no-place e h
+      roomy e (no h) = placed-well e (omega arith)
 
-      free : decided cs ≡ Admitted → 8 * n ≤ length room → last ≡ Admitted
-      free e h = admitted-first cs _ e ∙ passed-over _ Room [] (le-ltb (length room) (8 * n) h) ∙ none-applies
-
-      roomy : decided cs ≡ Admitted → Dec (length room < 8 * n)
-          → (delivered-outcome (analysis-by (decided cs) policy tasks) (length room) ≡ outcome-by last policy tasks)
-          × (delivered (analysis-by (decided cs) policy tasks) room ≡ left-by last policy tasks room)
-      roomy e (yes h) = rw (full e h, e) (no-place policy tasks room (omega (arith, count e)))
-      roomy e (no h) = rw (free e (omega arith), e) (placed-well policy tasks room (omega (arith, count e)) (long e))
-
-      go : (a : Answer) → decided cs ≡ a
-          → (delivered-outcome (analysis-by (decided cs) policy tasks) (length room) ≡ outcome-by last policy tasks)
-          × (delivered (analysis-by (decided cs) policy tasks) room ≡ left-by last policy tasks room)
-      go Admitted e = roomy e (decLt (length room) (8 * n))
-      go (refused r) e = rw (refused-first cs (room-check (length room) n ∷ []) r e, e) (unroomed r policy tasks room)
+      go : (a : Answer) → decided cs ≡ a → Delivers a
+      go Admitted e = roomy e (decLt (length room) (most-frames * length tasks))
+      go (refused r) e = refused-so r e
 
 -- a set by value, and a sheet
-pub set-delivered : (s : TaskSet) (room : List ℕ) → length (s .tasks) ≡ 16
+pub set-delivered : (s : TaskSet) (room : List ℕ) → length (s .tasks) ≡ most-tasks
     → (delivered-outcome (set-analysis s) (length room) ≡ set-outcome s room) × (delivered (set-analysis s) room ≡ set-left s room)
-unfolding set-analysis set-outcome set-left set-answer admission
+unfolding set-analysis set-outcome set-left set-analysing admission
 set-delivered s room sixteen =
-    delivery (list-checks (s .policy) (s .«task_count») (records-of s)) (s .policy) (s .«task_count») (map task-in (records-of s)) room
-    (λ e. sym (count-in-use s sixteen e)) (λ e. times-long (s .policy) (map task-in (records-of s)) (by-admission s sixteen e .counted))
+    delivery (list-checks (s .policy) (s .«task_count») (records-of s)) (s .policy) (map task-in (records-of s)) room
+    (λ e. times-long (s .policy) (map task-in (records-of s)) (by-admission s sixteen e .counted))
 
 pub sheet-delivered : (s room : List ℕ)
     → (delivered-outcome (sheet-analysis s) (length room) ≡ sheet-outcome s room) × (delivered (sheet-analysis s) room ≡ sheet-left s room)
-unfolding sheet-analysis sheet-outcome sheet-left sheet-answer
+unfolding sheet-analysis sheet-outcome sheet-left sheet-analysing
 sheet-delivered s room =
-    delivery (sheet-checks s) (policy-of s) (length (tasks-of s)) (tasks-of s) room
-    (λ e. refl) (λ e. times-long (policy-of s) (tasks-of s) (by-reading s (reading-answer s ∙ e) .counted))
+    delivery (sheet-checks s) (policy-of s) (tasks-of s) room
+    (λ e. times-long (policy-of s) (tasks-of s) (by-reading s (reading-answer s ∙ e) .counted))
 
 -- an analysis never has more than sixteen tasks
 pub few-analysed : (a : Answer) (policy : ℕ) (tasks : List Task) → (a ≡ Admitted → length tasks ≤ 16) → analysis-by a policy tasks .«task_count» ≤ 16

@@ -1,14 +1,13 @@
 -- What the analysis of a set answers and leaves, refused calls too, and the numbers that the workbench gets.
-use mathlib.Core.Bool.{Bool}
 use mathlib.Core.List.{List, [], _∷_, _++_, map}
 use Prim.Native.Nat.{ℕ, _+_, _-_, _*_}
-use lib.Dec.{ltb}
-use lib.ListN.{length, drop, replicate}
+use lib.ListN.{length, replicate}
 use Rattle.theory.specs.Tasks.{Task}
 use Rattle.sheet.specs.Constants.{most-frames, most-tasks}
 use Rattle.sheet.specs.Refusals.{number-of}
 use Rattle.sheet.specs.Tasks.{task-in, records-of}
-use Rattle.lent.specs.Checks.{Check, _⇒_}
+use Rattle.lent.specs.Checks.{Check}
+use Rattle.lent.specs.Lent.{Call, answered, left-after}
 use Rattle.sheet.specs.Admission.{decided, list-checks, admission}
 use Rattle.sheet.specs.Reading.{sheet-checks, policy-of, tasks-of}
 use Rattle.sheet.specs.declared.TaskSet.{TaskSet}
@@ -60,31 +59,28 @@ set-analysis s = analysis-by (admission s) (s .policy) (map task-in (records-of 
 unfoldable pub sheet-analysis : List ℕ → Analysis
 sheet-analysis s = analysis-by (decided (sheet-checks s)) (policy-of s) (tasks-of s)
 
--- "12: lent room too small": "8n numbers for the analysis", last of all
-unfoldable pub room-check : ℕ → ℕ → Check Refusal
-room-check room n = ltb room (most-frames * n) ⇒ Room
+-- ---- times to lent numbers
 
--- "Response times go to lent 32-bit numbers .. Numbers after the first 8n stay as they were." "A refusal .. changes no lent memory."
-unfoldable pub left-by : Answer → ℕ → List Task → List ℕ → List ℕ
-left-by Admitted policy tasks room = times-of policy tasks ++ drop (most-frames * length tasks) room
-left-by (refused r) policy tasks room = room
+-- the analysis of tasks that these checks may turn away: it writes their times and answers their outcome
+unfoldable pub analysing : List (Check Refusal) → ℕ → List Task → Call Refusal ℕ Outcome
+analysing checks policy tasks = record { checks = checks; writes = times-of policy tasks; says = outcome-of policy tasks }
 
--- a set by value, its times to lent numbers
-unfoldable pub set-answer : TaskSet → ℕ → Answer
-set-answer s room = decided (list-checks (s .policy) (s .«task_count») (records-of s) ++ room-check room (s .«task_count») ∷ [])
+-- of a set by value
+unfoldable pub set-analysing : TaskSet → Call Refusal ℕ Outcome
+set-analysing s = analysing (list-checks (s .policy) (s .«task_count») (records-of s)) (s .policy) (map task-in (records-of s))
 
 unfoldable pub set-outcome : TaskSet → List ℕ → Outcome
-set-outcome s room = outcome-by (set-answer s (length room)) (s .policy) (map task-in (records-of s))
+set-outcome s room = answered Room Refused (set-analysing s) room
 
 unfoldable pub set-left : TaskSet → List ℕ → List ℕ
-set-left s room = left-by (set-answer s (length room)) (s .policy) (map task-in (records-of s)) room
+set-left s room = left-after Room (set-analysing s) room
 
--- a sheet, its times to lent numbers
-unfoldable pub sheet-answer : List ℕ → ℕ → Answer
-sheet-answer s room = decided (sheet-checks s ++ room-check room (length (tasks-of s)) ∷ [])
+-- of a sheet
+unfoldable pub sheet-analysing : List ℕ → Call Refusal ℕ Outcome
+sheet-analysing s = analysing (sheet-checks s) (policy-of s) (tasks-of s)
 
 unfoldable pub sheet-outcome : List ℕ → List ℕ → Outcome
-sheet-outcome s room = outcome-by (sheet-answer s (length room)) (policy-of s) (tasks-of s)
+sheet-outcome s room = answered Room Refused (sheet-analysing s) room
 
 unfoldable pub sheet-left : List ℕ → List ℕ → List ℕ
-sheet-left s room = left-by (sheet-answer s (length room)) (policy-of s) (tasks-of s) room
+sheet-left s room = left-after Room (sheet-analysing s) room
