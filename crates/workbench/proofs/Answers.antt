@@ -6,12 +6,14 @@ use mathlib.Core.Path.{_≡_, refl, sym, ap, _∙_}
 use Prim.Native.Nat.{ℕ, zero, suc, _+_, _*_, _≤_, _<_, zero-le}
 use native.Mathlib.Decide.{decLt}
 use native.Mathlib.Omega.{arith}
-use borrow.Author.Tests.{lt-ltb, le-ltb}
 use lib.Dec.{lit<}
 use lib.ListN.{length, getD, take, drop, List·getD-eq-default}
 use lib.Seq.{take-at}
 use Rattle.theory.specs.Tasks.{Task}
 use Rattle.theory.specs.Analysis.{Verdict, holds, missed, verdict}
+use Rattle.lent.specs.Lent.{laid}
+use Rattle.lent.proofs.Lent.{by-checks, by-room, turned-tells, done-tells}
+use Rattle.lent.proofs.Lent.{done as all-done}
 use Rattle.sheet.specs.Refusals.{number-of}
 use Rattle.sheet.specs.Admission.{decided}
 use Rattle.sheet.specs.Reading.{sheet-checks, policy-of, tasks-of}
@@ -21,14 +23,15 @@ use Rattle.sheet.specs.declared.Answer.the-variants.{Refused as refused}
 use Rattle.sheet.specs.declared.Refusal.{Refusal}
 use Rattle.sheet.specs.declared.Refusal.the-variants.{Room}
 use Rattle.sheet.proofs.Small.{number-small}
-use Rattle.sheet.proofs.Checks.{applies, passed-over, admitted-first, refused-first}
+use Rattle.sheet.proofs.Checks.{none-applies, one-applies}
 use Rattle.sheet.proofs.Carried.{by-reading, reading-answer}
 use Rattle.order.specs.Order.{priority-order, ordered-set}
 use Rattle.order.proofs.Order.{Permutes, order-permutes}
 use Rattle.analysis.specs.Times.{number-at, blocker-number, verdict-number, outcome-of, times-of}
-use Rattle.analysis.specs.Answers.{blocker-code, code, outcome-by, refused-analysis, analysis-by, sheet-analysis}
-use Rattle.analysis.proofs.Entries.{times-long, none-applies}
-use Rattle.workbench.specs.Entry.{four-bytes, entry-answer, entry-number, left-by, entry-left}
+use Rattle.analysis.specs.Answers.{blocker-code, code, refused-analysis, analysis-by, sheet-analysis}
+use Rattle.analysis.proofs.Entries.{times-long}
+use Rattle.workbench.specs.Entry.{four-bytes, checking, entry-number, entry-left}
+use Rattle.workbench.proofs.Four.{length-four}
 
 -- ---- the number is small
 
@@ -56,33 +59,26 @@ module _ (s room : List ℕ) where
   abbrev n : ℕ
   n = length (tasks-of s)
 
-  admits : decided (sheet-checks s) ≡ Admitted → 4 * (8 * n) ≤ length room → entry-answer s (length room) ≡ Admitted
-  unfolding entry-answer
-  admits e h = admitted-first (sheet-checks s) _ e ∙ passed-over _ Room [] (le-ltb (length room) (4 * (8 * n)) h) ∙ none-applies
-
-  lacks : decided (sheet-checks s) ≡ Admitted → length room < 4 * (8 * n) → entry-answer s (length room) ≡ refused Room
-  unfolding entry-answer
-  lacks e h = admitted-first (sheet-checks s) _ e ∙ applies _ Room [] (lt-ltb (length room) (4 * (8 * n)) h)
-
-  turns : (r : Refusal) → decided (sheet-checks s) ≡ refused r → entry-answer s (length room) ≡ refused r
-  unfolding entry-answer
-  turns r e = refused-first (sheet-checks s) _ r e
+  -- the places that an admitted sheet asks for
+  places : decided (sheet-checks s) ≡ Admitted → length (four-bytes (times-of (policy-of s) (tasks-of s))) ≡ 32 * n
+  places e =
+      length-four (times-of (policy-of s) (tasks-of s))
+      ∙ omega (arith, times-long (policy-of s) (tasks-of s) (by-reading s (reading-answer s ∙ e) .counted))
 
   done-by : (a : Answer) → decided (sheet-checks s) ≡ a → 32 * analysis-by a (policy-of s) (tasks-of s) .«task_count» ≤ length room
       → (code (analysis-by a (policy-of s) (tasks-of s) .outcome) ≡ entry-number s room)
       × (four-bytes (take (8 * analysis-by a (policy-of s) (tasks-of s) .«task_count») (analysis-by a (policy-of s) (tasks-of s) .times))
       ++ drop (32 * analysis-by a (policy-of s) (tasks-of s) .«task_count») room ≡ entry-left s room)
-  unfolding analysis-by refused-analysis entry-number entry-left outcome-by left-by four-bytes
+  unfolding analysis-by refused-analysis entry-number entry-left checking four-bytes laid
   done-by Admitted e h =
-      let same : 32 * n ≡ 4 * (8 * n) = omega arith in
-      rw (admits e (omega arith), take-at (times-of (policy-of s) (tasks-of s)) _ (8 * n) (times-long (policy-of s) (tasks-of s) (by-reading s (reading-answer s ∙ e) .counted)), same)
-      (refl, refl)
-  done-by (refused r) e h = rw (turns r e) (refl, refl)
+      let d = done-tells Room number-of (checking s) room (all-done Room number-of (checking s) room (none-applies (sheet-checks s) e) (rw (places e) h)) in
+      rw (take-at (times-of (policy-of s) (tasks-of s)) _ (8 * n) (times-long (policy-of s) (tasks-of s) (by-reading s (reading-answer s ∙ e) .counted)), ← places e) d
+  done-by (refused r) e h = turned-tells Room number-of (checking s) room (by-checks Room number-of (checking s) room r (one-applies (sheet-checks s) r e))
 
   short-by : (a : Answer) → decided (sheet-checks s) ≡ a → length room < 32 * analysis-by a (policy-of s) (tasks-of s) .«task_count»
       → (12 ≡ entry-number s room) × (room ≡ entry-left s room)
-  unfolding analysis-by refused-analysis entry-number entry-left outcome-by left-by
-  short-by Admitted e h = rw (lacks e (omega arith)) (refl, refl)
+  unfolding analysis-by refused-analysis entry-number entry-left checking
+  short-by Admitted e h = turned-tells Room number-of (checking s) room (by-room Room number-of (checking s) room (none-applies (sheet-checks s) e) (rw (places e) h))
   short-by (refused r) e h = let z : ⊥ = omega arith in absurd z
 
   small-by : (a : Answer) → decided (sheet-checks s) ≡ a → code (analysis-by a (policy-of s) (tasks-of s) .outcome) < 1000

@@ -40,7 +40,7 @@ unfolding four-bytes
 four-snoc [] x = append-nil (bytes-of 4 (digits 32 x))
 four-snoc (y ∷ xs) x = ap (λ (l : List ℕ). bytes-of 4 (digits 32 y) ++ l) (four-snoc xs x) ∙ sym (append-assoc (bytes-of 4 (digits 32 y)) (four-bytes xs) (bytes-of 4 (digits 32 x)))
 
-length-four : (xs : List ℕ) → length (four-bytes xs) ≡ 4 * length xs
+pub length-four : (xs : List ℕ) → length (four-bytes xs) ≡ 4 * length xs
 unfolding four-bytes
 length-four [] = refl
 length-four (x ∷ xs) = rw (length-append (bytes-of 4 (digits 32 x)) (four-bytes xs), length-bytes 4 (digits 32 x), length-four xs) (omega arith)
