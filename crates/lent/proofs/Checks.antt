@@ -2,7 +2,7 @@
 use mathlib.Core.Bool.{Bool, true, false}
 use mathlib.Core.List.{List, [], _∷_, _++_}
 use mathlib.Core.Option.{Option, none, some}
-use mathlib.Core.Path.{_≡_, refl, sym, ap, _∙_}
+use mathlib.Core.Path.{_≡_, refl, sym, subst, ap, _∙_}
 use Prim.Native.Nat.{ℕ}
 use native.Mathlib.Omega.{arith}
 use Rattle.lent.specs.Checks.{Check, _⇒_, first-refusal}
@@ -65,3 +65,24 @@ module _ {R : Type 0} where
           let z : _≡_ {A = ℕ} 0 1 = cc in
           let z : ⊥ = omega arith in
           absurd z
+
+-- ---- what is true of each refusal of a row is true of the one that it gives
+
+module _ {R : Type 0} (P : R → Type 0) where
+  abbrev pub Each : List (Check R) → Type 0
+  Each [] = Unit {0}
+  Each (c ∷ cs) = P (c .refusal) × Each cs
+
+  pub each-append : (cs ds : List (Check R)) → Each cs → Each ds → Each (cs ++ ds)
+  each-append [] ds n m = m
+  each-append (c ∷ cs) ds n m = (n .0, each-append cs ds (n .1) m)
+
+  pub each-first : (cs : List (Check R)) → Each cs → (r : R) → first-refusal cs ≡ some r → P r
+  unfolding first-refusal
+  each-first [] n r e = let z : _≡_ {A = ℕ} 0 1 = cc in let y : ⊥ = omega arith in absurd y
+  each-first (c ∷ cs) n r e = go (c .applies) e (each-first cs (n .1) r)
+    where
+      go : (b : Bool) → _≡_ {A = Option R} (elim b as (λ (x : Bool). Option R) [ true ↦ some (c .refusal) | false ↦ first-refusal cs ]) (some r)
+          → (first-refusal cs ≡ some r → P r) → P r
+      go true q rec = let z : c .refusal ≡ r = cc in subst P z (n .0)
+      go false q rec = rec q

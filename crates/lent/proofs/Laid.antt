@@ -1,12 +1,13 @@
 -- Elements laid over the front of lent places one by one.
 use mathlib.Core.List.{List, _++_}
-use mathlib.Core.Path.{_≡_, refl, sym, ap, _∙_}
-use Prim.Native.Nat.{ℕ, suc, _+_, _≤_, _<_}
-use native.Mathlib.Nat.{le-of-lt}
+use mathlib.Core.Path.{_≡_, refl, sym, ap, ap₂, _∙_}
+use Prim.Native.Nat.{ℕ, suc, _+_, _≤_, _<_, min}
+use native.Mathlib.Decide.{decLe}
+use native.Mathlib.Nat.{le-of-lt, min-comm, min-eq-left, min-eq-right}
 use native.Mathlib.Numerals.{add-one}
 use native.Mathlib.Omega.{arith}
 use lib.ListN.{length, getD, take, drop, set, length-append, length-take, length-drop}
-use lib.Seq.{append-snoc, drop-cons, set-at, take-at, take-suc, take-length, length-take-le}
+use lib.Seq.{append-snoc, drop-cons, set-at, take-at, take-suc, take-all, take-length, length-take-le}
 use Rattle.lent.specs.Lent.{laid}
 
 module _ {A : Type 0} (written places : List A) where
@@ -41,3 +42,17 @@ module _ {A : Type 0} (written places : List A) where
   pub take-laid : take (length written) (laid written places) ≡ written
   unfolding laid
   take-laid = take-at written (drop (length written) places) (length written) refl
+
+  -- no more of them than `most`
+  pub laid-most : (most : ℕ) → laid-to (min (length written) most) ≡ laid (take most written) places
+  unfolding laid-to laid
+  laid-most most = ap₂ (λ (r : List A) (k : ℕ). r ++ drop k places) (go (decLe (length written) most)) (min-comm (length written) most ∙ sym (length-take most written))
+    where
+      go : Dec (length written ≤ most) → take (min (length written) most) written ≡ take most written
+      go (yes h) = ap (λ (k : ℕ). take k written) (min-eq-left h) ∙ take-length written ∙ sym (take-all most written h)
+      go (no h) = let over : most ≤ length written = omega arith in ap (λ (k : ℕ). take k written) (min-eq-right over)
+
+  -- no place comes or goes
+  pub laid-length : length written ≤ length places → length (laid written places) ≡ length places
+  unfolding laid
+  laid-length h = simp (length-append, length-drop) (omega arith)

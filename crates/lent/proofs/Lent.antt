@@ -10,7 +10,7 @@ use borrow.Author.Tests.{lt-ltb, le-ltb}
 use lib.ListN.{length}
 use Rattle.lent.specs.Checks.{Check, _⇒_, first-refusal}
 use Rattle.lent.specs.Lent.{Call, laid, refusal-of, answered, left-after}
-use Rattle.lent.proofs.Checks.{applies, passed-over, no-check, none-first, some-first}
+use Rattle.lent.proofs.Checks.{applies, passed-over, no-check, none-first, some-first, Each, each-append, each-first}
 
 module _ {R A X : Type 0} (full : R) (refused : R → X) (call : Call R A X) (places : List A) where
   -- the answer and the places of a refusal, and of a call that is done
@@ -68,3 +68,8 @@ module _ {R A X : Type 0} (full : R) (refused : R → X) (call : Call R A X) (pl
       go : (o : Option R) → first-refusal (call .checks) ≡ o → Told
       go none e = roomy e (decLt (length places) (length (call .writes)))
       go (some r) e = turned-away r (by-checks r e)
+
+  -- what is true of each refusal of its checks, and of the want of room, is true of the one that it gives
+  pub each-refusal : (P : R → Type 0) → Each P (call .checks) → P full → (r : R) → refusal-of full call places ≡ some r → P r
+  unfolding refusal-of
+  each-refusal P each last r e = each-first P _ (each-append P (call .checks) _ each (last, tt)) r e

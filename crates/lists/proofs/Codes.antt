@@ -16,57 +16,48 @@ use Rattle.sheet.specs.Tasks.{task-in, records-of, blank-record}
 use Rattle.sheet.specs.Refusals.{number-of, task-of-refusal}
 use Rattle.sheet.specs.Fields.{unpacked}
 use Rattle.sheet.specs.Layout.{header-in, tasks-in, records-in, record-width}
-use Rattle.lent.specs.Checks.{Check, _⇒_}
-use Rattle.sheet.specs.Admission.{decided, admission, list-checks, policy-check, task-count-check, frame-count-check, frame-count-checks, task-checks}
-use Rattle.sheet.specs.Reading.{sheet-checks, layout-checks, tasks-of}
-use Rattle.sheet.specs.Writing.{sheet-bytes, writing, written, written-by}
-use Rattle.sheet.specs.declared.Answer.{Answer}
-use Rattle.sheet.specs.declared.Answer.the-variants.{Admitted, Refused}
+use Rattle.lent.specs.Checks.{Check}
+use Rattle.lent.proofs.Checks.{Each, each-append}
+use Rattle.lent.proofs.Laid.{laid-to-length, laid-most}
+use Rattle.lent.proofs.Lent.{Told, turned-away, is-done, told, each-refusal}
+use Rattle.sheet.specs.Admission.{admission, list-checks, policy-check, task-count-check, frame-count-check, frame-count-checks, task-checks}
+use Rattle.sheet.specs.Reading.{sheet-checks, layout-checks, policy-of, tasks-of}
+use Rattle.sheet.specs.Writing.{sheet-bytes, writing, written}
 use Rattle.sheet.specs.declared.Refusal.{Refusal}
 use Rattle.sheet.specs.declared.Refusal.the-variants.{Room}
-use Rattle.sheet.proofs.Checks.{both-passed}
+use Rattle.sheet.proofs.Checks.{admits}
+use Rattle.sheet.proofs.Counts.{known-small}
 use Rattle.sheet.proofs.Small.{number-small}
 use Rattle.sheet.specs.declared.TaskSet.{TaskSet}
 use Rattle.sheet.specs.declared.Written.{Written}
+use Rattle.sheet.specs.declared.Written.the-variants.{TurnedAway as not-written}
 use Rattle.sheet.specs.declared.Task.{Task as Record}
 use Rattle.theory.specs.Tasks.{Task}
 use Rattle.theory.specs.Analysis.{Verdict, holds, missed, verdict}
 use Rattle.order.specs.Order.{priority-order, ordered-set}
 use Rattle.order.proofs.Order.{order-permutes}
 use Rattle.analysis.specs.Times.{number-at, blocker-number, verdict-number, outcome-of}
-use Rattle.analysis.specs.Answers.{set-answer, set-outcome, outcome-by, room-check}
+use Rattle.analysis.specs.Answers.{analysing, set-analysing, set-outcome}
 use Rattle.analysis.specs.declared.Outcome.{Outcome}
+use Rattle.analysis.specs.declared.Outcome.the-variants.{Refused as not-analysed}
 use Rattle.analysis.proofs.Numbering.{number-in}
 use Rattle.sheet.proofs.Carried.{by-reading}
 use Rattle.sheet.proofs.Carried.{reading-answer as answer-read}
 use Rattle.sheet.proofs.Packing.{value-taken}
 use Rattle.sheet.proofs.RecordBits.{length-tasks-in}
 use Rattle.sheet.proofs.Sizes.{admitted-size}
-use Rattle.lists.specs.Lists.{laid, gathered-of}
-use Rattle.lists.specs.Faces.{list-analysed, list-written, list-read, list-read-by, reading-answer}
+use Rattle.lists.specs.Lists.{gathered-of}
+use Rattle.lists.specs.Faces.{list-analysed, list-written, reading-list, list-read}
+use Rattle.lists.specs.declared.ListRead.{ListRead}
+use Rattle.lists.specs.declared.ListRead.the-variants.{TurnedAway as not-read}
 use Rattle.lists.specs.Codes.{refusal-code, written-code, read-code, outcome-code}
 use Rattle.lists.proofs.Faces.{written-gathered, outcome-gathered}
-use Rattle.lists.proofs.Laws.{laid-length, laid-most}
 
 -- ---- the tasks that refusals name
 
 -- each check of a row names a task below k
 abbrev Names : ℕ → List (Check Refusal) → Type 0
-Names k [] = Unit {0}
-Names k (c ∷ cs) = (task-of-refusal (c .refusal) < k) × Names k cs
-
-names-append : (k : ℕ) (cs ds : List (Check Refusal)) → Names k cs → Names k ds → Names k (cs ++ ds)
-names-append k [] ds n m = m
-names-append k (c ∷ cs) ds n m = (n .0, names-append k cs ds (n .1) m)
-
-decided-names : (k : ℕ) (cs : List (Check Refusal)) → Names k cs → (r : Refusal) → decided cs ≡ Refused r → task-of-refusal r < k
-unfolding decided
-decided-names k [] n r e = let z : _≡_ {A = ℕ} 0 1 = cc in let z : ⊥ = omega arith in absurd z
-decided-names k (c ∷ cs) n r e = go (c .applies) e (decided-names k cs (n .1) r)
-  where
-    go : (b : Bool) → elim b as (λ (x : Bool). Answer) [ true ↦ Refused (c .refusal) | false ↦ decided cs ] ≡ Refused r → (decided cs ≡ Refused r → task-of-refusal r < k) → task-of-refusal r < k
-    go true q rec = let z : c .refusal ≡ r = cc in subst (λ (x : Refusal). task-of-refusal x < k) z (n .0)
-    go false q rec = rec q
+Names k = Each (λ r. task-of-refusal r < k)
 
 frame-names : (k i : ℕ) (rs : List Record) → i + length rs ≤ k → Names k (frame-count-checks i rs)
 unfolding frame-count-checks frame-count-check
@@ -83,6 +74,9 @@ unfolding layout-checks frame-count-check
 layout-names k i zero bits p h = (p, (p, tt))
 layout-names k i (suc n) bits p h = (p, (omega arith, (p, layout-names k (suc i) n (drop (record-width bits) bits) p (omega arith))))
 
+abbrev below : Refusal → Type 0
+below r = task-of-refusal r < 32
+
 refusal-small : (r : Refusal) → task-of-refusal r < 32 → refusal-code r < 2 ^ 32
 refusal-small r h = let n = number-small r in omega arith
 
@@ -94,7 +88,7 @@ gathered-length policy list =
     let blanks : List Record = replicate most-tasks blank-record in
     let e : length blanks ≡ most-tasks = length-replicate most-tasks blank-record in
     ap length (sym (laid-most list blanks most-tasks))
-    ∙ laid-length list blanks (min (length list) most-tasks) (min-le-left (length list) most-tasks) (subst (λ (k : ℕ). min (length list) most-tasks ≤ k) (sym e) (min-le-right (length list) most-tasks))
+    ∙ laid-to-length list blanks (min (length list) most-tasks) (min-le-left (length list) most-tasks) (subst (λ (k : ℕ). min (length list) most-tasks ≤ k) (sym e) (min-le-right (length list) most-tasks))
     ∙ e
 
 module _ (policy : ℕ) (list : List Record) (room : List ℕ) where
@@ -105,33 +99,32 @@ module _ (policy : ℕ) (list : List Record) (room : List ℕ) where
   unfolding records-of
   records-few = rw (length-take) (omega (arith, gathered-length policy list))
 
-  row-names : (c : Check Refusal) → task-of-refusal (c .refusal) < 32 → Names 32 (list-checks policy (set .«task_count») (records-of set) ++ c ∷ [])
+  row-names : Names 32 (list-checks policy (set .«task_count») (records-of set))
   unfolding list-checks policy-check task-count-check
-  row-names c h =
+  row-names =
       let rs : List Record = records-of set in
       let counts : List (Check Refusal) = frame-count-checks 0 rs in
       let judged : List (Check Refusal) = task-checks 0 (map task-in rs) in (
         lit< tt,
         (
           lit< tt,
-          names-append 32 (counts ++ judged) (c ∷ [])
-              (names-append 32 counts judged (frame-names 32 0 rs (omega (arith, records-few))) (task-names 32 0 (map task-in rs) (omega (arith, records-few, length-map rs task-in)))) (h, tt),
+          each-append below counts judged (frame-names 32 0 rs (omega (arith, records-few))) (task-names 32 0 (map task-in rs) (omega (arith, records-few, length-map rs task-in))),
         ),
       )
 
-  abbrev space : Check Refusal
-  space = ltb (length room) (length (sheet-bytes set)) ⇒ Room
-
   pub written-small : written-code (list-written policy list room) < 2 ^ 32
-  unfolding written written-by writing admission gathered-of
-  written-small = subst (λ (w : Written). written-code w < 2 ^ 32) (written-gathered policy list room) (go (writing set (length room)) refl)
+  unfolding written writing admission gathered-of
+  written-small = subst (λ (w : Written). written-code w < 2 ^ 32) (written-gathered policy list room) (go (told Room not-written (writing set) room))
     where
       checks : List (Check Refusal)
       checks = list-checks policy (set .«task_count») (records-of set)
 
-      go : (a : Answer) → writing set (length room) ≡ a → written-code (written-by a set) < 2 ^ 32
-      go Admitted e = let size = admitted-size set (gathered-length policy list) (both-passed checks (space ∷ []) e .0) in omega arith
-      go (Refused r) e = refusal-small r (decided-names 32 (checks ++ space ∷ []) (row-names space (lit< tt)) r e)
+      go : Told Room not-written (writing set) room → written-code (written set room) < 2 ^ 32
+      go (is-done d) =
+          let size = admitted-size set (gathered-length policy list) (admits checks (d .admitted)) in
+          subst (λ (w : Written). written-code w < 2 ^ 32) (sym (d .answer)) (omega arith)
+      go (turned-away r t) =
+          subst (λ (w : Written). written-code w < 2 ^ 32) (sym (t .answer)) (refusal-small r (each-refusal Room not-written (writing set) room below row-names (lit< tt) r (t .why)))
 
 -- ---- a list analysed
 
@@ -154,18 +147,20 @@ missed-small order (missed p (some b)) few = let n = few p in let m = few b in o
 
 module _ (policy : ℕ) (list : List Record) (room : List ℕ) where
   pub outcome-small : outcome-code (list-analysed policy list room) < 2 ^ 32
-  unfolding set-outcome outcome-by set-answer room-check gathered-of outcome-of
-  outcome-small = subst (λ (o : Outcome). outcome-code o < 2 ^ 32) (outcome-gathered policy list room) (go (set-answer (set policy list room) (length room)) refl)
+  unfolding set-outcome set-analysing analysing gathered-of outcome-of
+  outcome-small = subst (λ (o : Outcome). outcome-code o < 2 ^ 32) (outcome-gathered policy list room) (go (told Room not-analysed (set-analysing (set policy list room)) room))
     where
       records : List Record
       records = records-of (set policy list room)
 
-      enough : Check Refusal
-      enough = room-check (length room) (set policy list room .«task_count»)
-
-      go : (a : Answer) → set-answer (set policy list room) (length room) ≡ a → outcome-code (outcome-by a policy (map task-in records)) < 2 ^ 32
-      go Admitted e = missed-small (priority-order policy (map task-in records)) (verdict (ordered-set policy (map task-in records))) (λ p. omega (arith, number-few policy (map task-in records) p, records-few policy list room, length-map records task-in))
-      go (Refused r) e = refusal-small r (decided-names 32 (list-checks policy (set policy list room .«task_count») records ++ enough ∷ []) (row-names policy list room enough (lit< tt)) r e)
+      go : Told Room not-analysed (set-analysing (set policy list room)) room → outcome-code (set-outcome (set policy list room) room) < 2 ^ 32
+      go (is-done d) =
+          subst (λ (o : Outcome). outcome-code o < 2 ^ 32) (sym (d .answer))
+          (missed-small (priority-order policy (map task-in records)) (verdict (ordered-set policy (map task-in records)))
+          (λ p. omega (arith, number-few policy (map task-in records) p, records-few policy list room, length-map records task-in)))
+      go (turned-away r t) =
+          subst (λ (o : Outcome). outcome-code o < 2 ^ 32) (sym (t .answer))
+          (refusal-small r (each-refusal Room not-analysed (set-analysing (set policy list room)) room below (row-names policy list room) (lit< tt) r (t .why)))
 
 -- ---- a sheet read
 
@@ -180,9 +175,9 @@ module _ (s : List ℕ) (list : List Record) where
   unfolding header-in unpacked
   count-small = value-taken task-count-width (drop policy-width (drop version-width bits))
 
-  sheet-names : (c : Check Refusal) → task-of-refusal (c .refusal) < 32 → Names 32 (sheet-checks s ++ c ∷ [])
+  sheet-names : Names 32 (sheet-checks s)
   unfolding sheet-checks policy-check task-count-check
-  sheet-names c h =
+  sheet-names =
       let laid : List (Check Refusal) = layout-checks 0 n (records-in bits) in
       let judged : List (Check Refusal) = task-checks 0 (tasks-in n (records-in bits)) in (
         lit< tt,
@@ -196,9 +191,8 @@ module _ (s : List ℕ) (list : List Record) where
                 lit< tt,
                 (
                   lit< tt,
-                  names-append 32 (laid ++ judged) (c ∷ [])
-                      (names-append 32 laid judged (layout-names 32 0 n (records-in bits) (lit< tt) (omega (arith, count-small)))
-                      (task-names 32 0 (tasks-in n (records-in bits)) (omega (arith, count-small, length-tasks-in n (records-in bits))))) (h, tt),
+                  each-append below laid judged (layout-names 32 0 n (records-in bits) (lit< tt) (omega (arith, count-small)))
+                      (task-names 32 0 (tasks-in n (records-in bits)) (omega (arith, count-small, length-tasks-in n (records-in bits)))),
                 ),
               ),
             ),
@@ -206,13 +200,13 @@ module _ (s : List ℕ) (list : List Record) where
         ),
       )
 
-  abbrev short : Check Refusal
-  short = ltb (length list) (length (tasks-of s)) ⇒ Room
-
   pub read-small : read-code (list-read s list) < 2 ^ 32
-  unfolding list-read list-read-by reading-answer
-  read-small = go (reading-answer s (length list)) refl
+  unfolding list-read reading-list
+  read-small = go (told Room not-read (reading-list s) list)
     where
-      go : (a : Answer) → reading-answer s (length list) ≡ a → read-code (list-read-by a s) < 2 ^ 32
-      go Admitted e = let c = by-reading s (answer-read s ∙ both-passed (sheet-checks s) (short ∷ []) e .0) in omega (arith, c .policy-known, c .few-tasks)
-      go (Refused r) e = refusal-small r (decided-names 32 (sheet-checks s ++ short ∷ []) (sheet-names short (lit< tt)) r e)
+      go : Told Room not-read (reading-list s) list → read-code (list-read s list) < 2 ^ 32
+      go (is-done d) =
+          let c = by-reading s (answer-read s ∙ admits (sheet-checks s) (d .admitted)) in
+          subst (λ (x : ListRead). read-code x < 2 ^ 32) (sym (d .answer)) (omega (arith, known-small (policy-of s) (c .policy-known), c .few-tasks))
+      go (turned-away r t) =
+          subst (λ (x : ListRead). read-code x < 2 ^ 32) (sym (t .answer)) (refusal-small r (each-refusal Room not-read (reading-list s) list below sheet-names (lit< tt) r (t .why)))

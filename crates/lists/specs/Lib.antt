@@ -1,5 +1,5 @@
 -- What the lists' contracts cite.
 pub mod Lists
-pub mod Parts
 pub mod Faces
 pub mod Codes
+pub mod Inside

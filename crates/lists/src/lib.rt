@@ -1,13 +1,15 @@
 // The workbench's lists of task records: a lent list gathered into a set by value, a set scattered into a lent list,
 // and over these two the calls that read into, write and analyse a lent list, for Rattle and for C.
 ghost use mathlib.Core.Path.{_≡_};
-ghost use Prim.Native.Nat.{_<_, _^_, min};
+ghost use Prim.Native.Nat.{suc, _<_, _^_, min};
 ghost use lib.ListN.{getD};
+ghost use Rattle.sheet.specs.Constants.{most-tasks};
+ghost use Rattle.sheet.specs.Tasks.{no-record};
 ghost use Rattle.analysis.specs.Answers.{blocker-code};
 ghost use Rattle.lists.specs.Lists.{gathered-of, scattered-of};
 ghost use Rattle.lists.specs.Codes.{refusal-code, written-code, read-code, outcome-code};
 ghost use Rattle.lists.specs.Faces.{list-read, list-filled, list-written, list-left, list-analysed, list-times};
-ghost use Rattle.lists.specs.Parts.{opened-of, with-record, no-record, to-fill, answer-to};
+ghost use Rattle.lists.specs.Inside.Parts.{opened-of, with-record, to-fill, read-answer};
 use analysis::Outcome;
 use order::Blocker;
 use sheet::Answer;
@@ -20,7 +22,7 @@ use sheet::Written;
 
 // The count of a list of n records: 17 for all that are too long.
 fn counted(n: usize) -> u32
-    ensures { λ r. ⌜ r ≡ min n 17 ⌝ }
+    ensures { λ r. ⌜ r ≡ min n (suc most-tasks) ⌝ }
 {
     let over = Sheet::MOST_TASKS + 1;
     if n < over as usize {
@@ -42,7 +44,7 @@ fn opened(policy: u32, n: usize) -> TaskSet
 
 // How many of n records go into a set.
 fn to_copy(n: usize) -> usize
-    ensures { λ r. ⌜ r ≡ min n 16 ⌝ }
+    ensures { λ r. ⌜ r ≡ min n most-tasks ⌝ }
 {
     let most = Sheet::MOST_TASKS as usize;
     if n < most {
@@ -52,7 +54,7 @@ fn to_copy(n: usize) -> usize
 }
 
 fn with_record(set: TaskSet, i: usize, task: Task) -> TaskSet
-    requires { ⌜ i < 16 ⌝ }
+    requires { ⌜ i < most-tasks ⌝ }
     ensures { λ r. ⌜ r ≡ with-record set i task ⌝ }
 {
     let mut filled = set;
@@ -91,7 +93,7 @@ fn to_fill(set: TaskSet, n: usize) -> usize
 }
 
 fn record_at(set: TaskSet, i: usize) -> Task
-    requires { ⌜ i < 16 ⌝ }
+    requires { ⌜ i < most-tasks ⌝ }
     ensures { λ r. ⌜ r ≡ getD (set .tasks) i no-record ⌝ }
 {
     let task = set.tasks[i];
@@ -125,7 +127,7 @@ fn set_in(reading: Reading) -> TaskSet
 
 // The answer for a list of n records.
 fn answered(reading: Reading, n: usize) -> ListRead
-    ensures { λ r. ⌜ r ≡ answer-to reading n ⌝ }
+    ensures { λ r. ⌜ r ≡ read-answer reading n ⌝ }
 {
     let answer = reading.answer;
     let set = reading.set;

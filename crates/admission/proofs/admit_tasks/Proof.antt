@@ -64,7 +64,7 @@ loop-less : tie.Need-loop-less Inv-loop μ-loop
 loop-less c = search needs
 
 loop-again : tie.Need-loop-again Inv-loop μ-loop
-loop-again c = 
+loop-again c =
     let at = c .before .before .before .before .before in (
       search needs,
       tasks-pass _ _ (there (at .before)) _ _ (c .before .before .before .before .loop-test .taken) _ (c .before .before .task-answer .ensures) (c .enum-told .given .1) ∙ at .loop .inv .1,

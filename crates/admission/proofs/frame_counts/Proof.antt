@@ -58,7 +58,7 @@ loop-less : tie.Need-loop-less Inv-loop μ-loop
 loop-less c = search needs
 
 loop-again : tie.Need-loop-again Inv-loop μ-loop
-loop-again c = 
+loop-again c =
     let at = c .before .before .before .before in (
       search needs,
       counts-pass _ _ (there (at .before)) _ _ (c .before .before .before .loop-test .taken) _ refl (sym (c .before .miscounted .ensures) ∙ c .if1 .left) ∙ at .loop .inv .1,

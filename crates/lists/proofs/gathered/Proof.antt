@@ -49,7 +49,8 @@ use Rattle.sheet.specs.declared.TaskSet.{TaskSet}
 use Rattle.sheet.proofs.Task as T
 use Rattle.sheet.proofs.TaskSet as S
 use Rattle.lists.specs.Lists.{gathered-of}
-use Rattle.lists.specs.Parts.{no-record, opened-of, with-record as with-record-of}
+use Rattle.sheet.specs.Tasks.{no-record}
+use Rattle.lists.specs.Inside.Parts.{opened-of, with-record as with-record-of}
 use Rattle.lists.proofs.Laws.{part, part-none, part-more, part-all}
 use Rattle.lists.proofs.Records.{task-val, set-val, IsSet, task-tells, set-tells, task-makes, set-makes, task-typed, set-typed, task-copy}
 use Rattle.lists.proofs.Walk.{tests, calls-value}

@@ -1,5 +1,5 @@
 -- `opened` meets its contract.
-use Rattle.lists.specs.Parts.{opened-of}
+use Rattle.lists.specs.Inside.Parts.{opened-of}
 use borrow.Author.Needs.{needs}
 use Rattle.lists.proofs.opened.Statement.{statement}
 use Rattle.lists.proofs.opened.Tie as tie

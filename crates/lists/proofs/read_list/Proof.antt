@@ -41,7 +41,7 @@ use Rattle.sheet.proofs.Task as T
 use Rattle.sheet.proofs.TaskSet as S
 use Rattle.lists.specs.declared.ListRead.{ListRead}
 use Rattle.lists.specs.Lists.{scattered-of}
-use Rattle.lists.specs.Parts.{answer-to}
+use Rattle.lists.specs.Inside.Parts.{read-answer}
 use Rattle.lists.proofs.ListRead as Lr
 use Rattle.lists.proofs.Faces.{read-list-is, filled-is}
 use Rattle.lists.proofs.Records.{set-val, set-tells, set-makes, set-typed, reading-val, reading-tells, reading-makes, reading-typed, list-read-val, list-read-tells, list-read-makes, list-read-typed}
@@ -115,7 +115,7 @@ module _ {M : Type 1} (𝓤 : URA M) (H : Heap 𝓤) (A : Atoms 𝓤) (W : Given
   d = r .set
 
   abbrev w : ListRead
-  w = answer-to r (length (y .now))
+  w = read-answer r (length (y .now))
 
   exits : (zs : List Task) → zs ≡ scattered-of d (y .now) → length zs ≡ length (y .now) → Is Lr.the-row w (list-read-val w ∷ [])
       → ent 𝓤 (⋆ 𝓤 H A ((‵ (flft κ q) ⊛ ‵ ftrue) ∷ (‵ (flft κ′ q′) ⊛ ‵ ftrue) ∷ ‵ (finally T.the-row (y .name) zs) ∷ [])) (Post (list-read-val w))

@@ -49,8 +49,10 @@ use Rattle.sheet.specs.declared.TaskSet.{TaskSet}
 use Rattle.sheet.proofs.Task as T
 use Rattle.sheet.proofs.TaskSet as S
 use Rattle.lists.specs.Lists.{scattered-of}
-use Rattle.lists.specs.Parts.{no-record, to-fill as to-fill-of}
-use Rattle.lists.proofs.Laws.{laid-to, laid-none, laid-more, laid-length, fill-most, fill-room, laid-as-scattered}
+use Rattle.sheet.specs.Tasks.{no-record}
+use Rattle.lists.specs.Inside.Parts.{to-fill as to-fill-of}
+use Rattle.lent.proofs.Laid.{laid-to, laid-none, laid-more, laid-to-length}
+use Rattle.lists.proofs.Laws.{fill-most, fill-room, laid-as-scattered}
 use Rattle.lists.proofs.Records.{task-val, set-val, IsSet, task-tells, set-tells, tasks-length, task-makes, set-makes, task-typed, set-typed}
 use Rattle.lists.proofs.Walk.{tests, calls-value}
 use Rattle.lists.proofs.to_fill as to-fill
@@ -141,7 +143,7 @@ module _ {M : Type 1} (𝓤 : URA M) (H : Heap 𝓤) (A : Atoms 𝓤) (W : Given
   has-tasks = tasks-length d is-set
 
   zs-length : (i : Upto) → length (zs (i .0)) ≡ length ys
-  zs-length i = laid-length (d .tasks) ys (i .0) (omega (arith, i .1, fill-most d (length ys), has-tasks)) (omega (arith, i .1, fill-room d (length ys)))
+  zs-length i = laid-to-length (d .tasks) ys (i .0) (omega (arith, i .1, fill-most d (length ys), has-tasks)) (omega (arith, i .1, fill-room d (length ys)))
 
   module _ (𝓣 : Tables 𝓤 H) (l₀ l₁ l₂ l₃ l₄ l₅ l₆ l₇ l₈ l₉ : ℕ) where
     abbrev C : Calls 𝓤 H

@@ -1,6 +1,6 @@
 -- `with_record` meets its contract.
 use mathlib.Core.Path.{refl}
-use Rattle.lists.specs.Parts.{with-record}
+use Rattle.lists.specs.Inside.Parts.{with-record}
 use borrow.Author.Needs.{needs}
 use Rattle.lists.proofs.with_record.Statement.{statement}
 use Rattle.lists.proofs.with_record.Tie as tie

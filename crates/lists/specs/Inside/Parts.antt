@@ -1,8 +1,7 @@
 -- What the pieces of the two copying loops answer.
-use mathlib.Core.Bool.{Bool, true, false}
-use mathlib.Core.List.{[]}
+use mathlib.Core.Bool.{Bool, true, false, cond, _&&_}
 use Prim.Native.Nat.{ℕ, suc, min}
-use lib.Dec.{ltb}
+use lib.Dec.{leb, ltb}
 use lib.ListN.{replicate, set}
 use Rattle.sheet.specs.Constants.{most-tasks}
 use Rattle.sheet.specs.Tasks.{blank-record}
@@ -14,7 +13,6 @@ use Rattle.sheet.specs.declared.Reading.{Reading}
 use Rattle.sheet.specs.declared.Refusal.the-variants.{Room}
 use Rattle.lists.specs.declared.ListRead.{ListRead}
 use Rattle.lists.specs.declared.ListRead.the-variants.{Set, TurnedAway}
-use Rattle.lists.specs.Lists.{fits}
 
 -- a set for a list of n records, with none of them in it yet
 unfoldable pub opened-of : ℕ → ℕ → TaskSet
@@ -23,24 +21,16 @@ opened-of policy n = record { policy = policy; «task_count» = min n (suc most-
 unfoldable pub with-record : TaskSet → ℕ → Task → TaskSet
 with-record s i task = record { policy = s .policy; «task_count» = s .«task_count»; tasks = set (s .tasks) i task }
 
--- what stands for a record past the end of an array: none is read there
-abbrev pub no-record : Task
-no-record = record { period = 0; deadline = 0; lock = 0; «frame_count» = 0; frames = [] }
-
 -- how many records of a list of n a set fills: its own, or none where they do not fit
-unfoldable pub to-fill-by : Bool → TaskSet → ℕ
-to-fill-by true s = s .«task_count»
-to-fill-by false s = 0
-
 unfoldable pub to-fill : TaskSet → ℕ → ℕ
-to-fill s n = to-fill-by (fits s n) s
+to-fill s n = cond (leb (s .«task_count») most-tasks && leb (s .«task_count») n) (s .«task_count») 0
 
 -- the answer to a reading, by whether the list is too short for the set
-unfoldable pub answer-by : Answer → Bool → TaskSet → ListRead
-answer-by (Refused r) short s = TurnedAway r
-answer-by Admitted true s = TurnedAway Room
-answer-by Admitted false s = Set (s .policy) (s .«task_count»)
+unfoldable pub read-by : Answer → Bool → TaskSet → ListRead
+read-by (Refused r) short s = TurnedAway r
+read-by Admitted true s = TurnedAway Room
+read-by Admitted false s = Set (s .policy) (s .«task_count»)
 
 -- and for a list of n records
-unfoldable pub answer-to : Reading → ℕ → ListRead
-answer-to reading n = answer-by (reading .answer) (ltb n (reading .set .«task_count»)) (reading .set)
+unfoldable pub read-answer : Reading → ℕ → ListRead
+read-answer reading n = read-by (reading .answer) (ltb n (reading .set .«task_count»)) (reading .set)
