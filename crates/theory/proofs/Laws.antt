@@ -4,6 +4,8 @@
 pub use Rattle.theory.proofs.Work.{work-zero, work-suc, work-one, work-add, work-mono, work-mod, whole-rounds, work-frames}
 -- the start frame and the largest frame: what they are, and that nothing else is
 pub use Rattle.theory.proofs.Work.{qualifies-test, monotonic-test, IsStart, start-is, start-when, start-most, IsLargest, largest-is, largest-when, frame-le-largest}
+-- the shortest deadline
+pub use Rattle.theory.proofs.Work.{IsShortest, shortest-is}
 -- admitted, as a test
 pub use Rattle.theory.proofs.Tests.{admitted-task-is, admitted-is}
 -- blocking and blocker

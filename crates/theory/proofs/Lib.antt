@@ -1,4 +1,4 @@
--- The theorems are in Theorems, the laws that other crates cite in Laws, 01's worked sets in Examples; the rest stands below these.
+-- The theorems are in Theorems, the laws that other crates cite in Laws, runs played by computation in Examples; the rest stands below these.
 pub mod Search
 pub mod Work
 pub mod Demand

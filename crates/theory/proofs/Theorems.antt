@@ -9,7 +9,7 @@ use Prim.Native.Nat.{ℕ, _≤_, _<_}
 use native.Mathlib.Nat.{lt-irrefl, not-le-of-lt}
 use lib.ListN.{length}
 use Rattle.theory.specs.Tasks.{Task, task-at, frame-count, largest-frame, deadline-of, Admitted}
-use Rattle.theory.specs.Analysis.{demand-of, response-of, passes, holds, missed, verdict}
+use Rattle.theory.specs.Analysis.{demand-of, response-of, passes, FirstWithout, holds, missed, verdict}
 use Rattle.theory.specs.Runs.{Run, Legal, TakesLonger, Takes, Misses}
 use Rattle.theory.specs.WorstRun.{worst-run}
 use Rattle.theory.proofs.Work.{largest-is}
@@ -79,23 +79,13 @@ pub worst-run-misses : (set : List Task) → Admitted set
     → Misses set (worst-run set p k) p 1 k
 worst-run-misses set admitted p k in-set k-in e = worst-misses set admitted p in-set k k-in e
 
--- k is the first frame of the task at place p without a response time.
-pub record FirstWithout (set : List Task) (p k : ℕ) : Type 0 where
-  pub frame-in : k < frame-count (task-at set p)
-  pub without : response-of set p k ≡ none
-  pub earlier-have : (j : ℕ) → j < k → (R : ℕ) × (response-of set p j ≡ some R)
-
 -- A task that does not pass has a first frame without a response time, and the worst run of that frame is a legal run in which that job misses.
 pub failing-first-misses : (set : List Task) → Admitted set
     → (p : ℕ) → p < length set → passes set p ≡ false
     → (k : ℕ) × FirstWithout set p k × Legal set (worst-run set p k) × Misses set (worst-run set p k) p 1 k
 failing-first-misses set admitted p in-set fails =
-    let (k, k-in, e, earlier) = fails-first set p (admitted .each-task p in-set .well-formed .has-frame) fails in (
-      k,
-      record { frame-in = k-in; without = e; earlier-have = earlier },
-      worst-run-legal set admitted p k in-set k-in,
-      worst-run-misses set admitted p k in-set k-in e,
-    )
+    let (k, first) = fails-first set p (admitted .each-task p in-set .well-formed .has-frame) fails in
+    (k, first, worst-run-legal set admitted p k in-set (first .frame-in), worst-run-misses set admitted p k in-set (first .frame-in) (first .without))
 
 -- For a task that does not pass, the worst run of its largest frame, too, is a legal run in which that job misses.
 pub failing-largest-misses : (set : List Task) → Admitted set
@@ -106,14 +96,15 @@ failing-largest-misses set admitted p in-set fails =
     let k-in : largest-frame (task-at set p) < frame-count (task-at set p) = largest-is (task-at set p) (admitted .each-task p in-set .well-formed .has-frame) .largest-in in
     (worst-run-legal set admitted p _ in-set k-in, worst-run-misses set admitted p _ in-set k-in (fails-largest set p fails))
 
--- So the task that the verdict names is a task of the set and misses its deadline in some run.
+-- So the task that the verdict names is a task of the set, and the worst run of its first frame without a response time is a legal run in which
+-- that job, released at tick 1, misses.
 pub named-task-misses : (set : List Task) → Admitted set
     → (p : ℕ) (b : Option ℕ) → verdict set ≡ missed p b
-    → (p < length set) × (run : Run) × (r k : ℕ) × Legal set run × Misses set run p r k
+    → (p < length set) × (k : ℕ) × FirstWithout set p k × Legal set (worst-run set p k) × Misses set (worst-run set p k) p 1 k
 named-task-misses set admitted p b e =
     let m : IsMissed set p b = verdict-missed set .0 e in
-    let (legal, misses) = failing-largest-misses set admitted p (m .in-set) (m .fails) in
-    (m .in-set, worst-run set p (largest-frame (task-at set p)), 1, largest-frame (task-at set p), legal, misses)
+    let (k, first, legal, misses) = failing-first-misses set admitted p (m .in-set) (m .fails) in
+    (m .in-set, k, first, legal, misses)
 
 -- ---- The verdict
 
@@ -125,8 +116,8 @@ holds-iff-no-miss set admitted = (holds-no-miss set admitted, go (outcome set))
     go : Outcome set → ((run : Run) → Legal set run → (p r k : ℕ) → p < length set → ¬ Misses set run p r k) → verdict set ≡ holds
     go (all-pass e pass) no-miss = e
     go (one-fails p e m) no-miss =
-        let (in-set, run, r, k, legal, misses) = named-task-misses set admitted p _ e in
-        absurd (no-miss run legal p r k in-set misses)
+        let (in-set, k, first, legal, misses) = named-task-misses set admitted p _ e in
+        absurd (no-miss (worst-run set p k) legal p 1 k in-set misses)
 
 -- ---- Times that need not be the least
 

@@ -11,7 +11,7 @@ use borrow.Author.Tests.{not-true, not-false}
 use lib.ListN.{length}
 use Rattle.theory.specs.First.{first, found}
 use Rattle.theory.specs.Tasks.{Task, task-at, frame-count, frame, deadline-of, largest-frame}
-use Rattle.theory.specs.Analysis.{lower, blocking, blocker, higher, IsResponse, demand-of, response-of, rounds-of, passes, holds, missed, verdict}
+use Rattle.theory.specs.Analysis.{lower, blocking, blocker, higher, IsResponse, demand-of, response-of, rounds-of, passes, FirstWithout, holds, missed, verdict}
 use Rattle.theory.proofs.Search.{IsFirst, first-some, first-none, first-exists, found-some, found-none, some-found, none-found, Answer, answer, nothing, it-is}
 use Rattle.theory.proofs.Work.{largest-is, frame-le-largest-frame}
 use Rattle.theory.proofs.Demand.{within-refl, demand-mono, demand-least}
@@ -30,7 +30,7 @@ module _ (set : List Task) (p : ℕ) where
   unfolding demand-of
   demand-of-least k t = demand-least _ _ _ _
 
-  -- the response time, as computed and as 01 says it
+  -- the response time, as computed and as the equation says it
   pub response-of-is : (k : ℕ) {t : ℕ} → (response-of set p k ≡ some t) ↔ IsResponse (demand-of set p k) (deadline-of (task-at set p) k) t
   unfolding response-of
   response-of-is k = response-is (demand-of set p k) (deadline-of (task-at set p) k)
@@ -61,13 +61,18 @@ module _ (set : List Task) (p : ℕ) where
   fails-largest e = found-none e
 
   -- a task that does not pass has a first frame without a response time
-  pub fails-first : 1 ≤ frame-count (task-at set p) → passes set p ≡ false
-      → (k : ℕ) × (k < frame-count (task-at set p)) × (response-of set p k ≡ none) × ((j : ℕ) → j < k → (t : ℕ) × (response-of set p j ≡ some t))
+  pub fails-first : 1 ≤ frame-count (task-at set p) → passes set p ≡ false → (k : ℕ) × FirstWithout set p k
   fails-first h e =
       let largest : largest-frame (task-at set p) < frame-count (task-at set p) = largest-is (task-at set p) h .largest-in in
       let (k, q, _) = first-exists 0 (frame-count (task-at set p)) has-none (largest-frame (task-at set p)) (omega arith) (omega arith) (rw (none-found (fails-largest e))) in
-      let f : IsFirst 0 (frame-count (task-at set p)) has-none k = first-some 0 (frame-count (task-at set p)) has-none q in
-      (k, omega (arith, f .before), found-none (not-true _ (f .passes)), λ j l. found-some (not-false _ (f .earlier j (omega arith) l)))
+      let f : IsFirst 0 (frame-count (task-at set p)) has-none k = first-some 0 (frame-count (task-at set p)) has-none q in (
+        k,
+        record {
+          frame-in = omega (arith, f .before);
+          without = found-none (not-true _ (f .passes));
+          earlier-have = λ j l. found-some (not-false _ (f .earlier j (omega arith) l));
+        },
+      )
     where
       has-none : ℕ → Bool
       has-none k = not (found (response-of set p k))

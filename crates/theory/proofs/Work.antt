@@ -14,7 +14,7 @@ use lib.Arith.{lt-of-le-ne}
 use lib.Dec.{leb, eqb}
 use lib.ListN.{length, getD}
 use Rattle.theory.specs.First.{first, every, found}
-use Rattle.theory.specs.Tasks.{Task, frame-count, next-frame, frame, work, largest, largest-frame, Qualifies, qualifies, start-frame, Monotonic}
+use Rattle.theory.specs.Tasks.{Task, frame-count, next-frame, frame, deadline-of, shortest-deadline, work, largest, largest-frame, Qualifies, qualifies, start-frame, Monotonic}
 use Rattle.theory.proofs.Search.{found-some, some-found, IsFirst, first-some, first-exists, every-at, every-is}
 
 module _ (t : Task) where
@@ -216,7 +216,19 @@ module _ (t : Task) where
   pub frame-le-largest-frame : 1 ≤ frame-count t → (k : ℕ) → frame t k ≤ frame t (largest-frame t)
   frame-le-largest-frame h k = rw (largest-is h .largest-time) (frame-le-largest k)
 
--- more in each frame is more work
+-- ---- the shortest deadline
+
+pub record IsShortest (t : Task) (d : ℕ) : Type 0 where
+  pub no-longer : (k : ℕ) → k < frame-count t → d ≤ deadline-of t k
+  pub of-a-frame : 1 ≤ frame-count t → (k : ℕ) × (k < frame-count t) × (deadline-of t k ≡ d)
+
+-- it is some frame's deadline, and no frame has a shorter one
+pub shortest-is : (t : Task) → IsShortest t (shortest-deadline t)
+unfolding deadline-of shortest-deadline
+shortest-is t = record { no-longer = λ k h. le-refl _; of-a-frame = λ h. (0, h, refl) }
+
+-- ---- more in each frame is more work
+
 pub work-frames : (t u : Task) → ((k : ℕ) → frame t k ≤ frame u k) → (k n : ℕ) → work t k n ≤ work u k n
 work-frames t u h k zero = rw (work-zero t k, work-zero u k) (le-refl 0)
 work-frames t u h k (suc n) = rw (work-suc t k n, work-suc u k n) (add-le-add (work-frames t u h k n) (h (k + n)))

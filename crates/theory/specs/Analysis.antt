@@ -1,12 +1,13 @@
--- 01, "The analysis": blocking, demand, response times, the verdict. Tasks stand in priority order, place 0 is highest.
+-- SCOPE.md, "The analysis": blocking, demand, response times, the verdict. Tasks stand in priority order, place 0 is highest.
 use mathlib.Core.Bool.{Bool, not, _&&_}
 use mathlib.Core.List.{List, [], _∷_, map}
 use mathlib.Core.Option.{Option, none, some}
+use mathlib.Core.Path.{_≡_}
 use Prim.Native.Nat.{ℕ, zero, suc, _+_, _-_, _/_, _≤_, _<_}
 use lib.Dec.{leb}
 use lib.ListN.{length, take, drop}
 use Rattle.theory.specs.First.{first, found}
-use Rattle.theory.specs.Tasks.{Task, task-at, frame, work, largest, largest-frame, start-frame, deadline-of}
+use Rattle.theory.specs.Tasks.{Task, task-at, frame-count, frame, work, largest, largest-frame, start-frame, deadline-of}
 
 -- the tasks of lower priority than place p
 unfoldable pub lower : List Task → ℕ → List Task
@@ -16,16 +17,16 @@ lower set p = drop (suc p) set
 unfoldable pub largest-lock : List Task → ℕ
 largest-lock tasks = largest (map (λ t. t .lock) tasks)
 
--- Blocking of a task: the largest Q among tasks of lower priority, less 1; 0 if that Q is 0 or 1, or if there is no lower task (0 less 1 is 0).
+-- how long lower tasks can block: a stretch that delays a release began at least a tick before it (0 less 1 is 0)
 unfoldable pub blocking : List Task → ℕ
 blocking below = largest-lock below - 1
 
--- its blocker: the lower task with the largest Q, if that Q is 2 or more, the first such in priority order; else none.
+-- the blocker of the task at place p: the first lower place with the largest Q, where that Q is at least 2
 unfoldable pub blocker : List Task → ℕ → Option ℕ
 blocker set p =
     first (suc p) (length set - suc p) (λ q. leb 2 (task-at set q .lock) && leb (largest-lock (lower set p)) (task-at set q .lock))
 
--- a higher task and the frame from which its work is counted: that frame is an argument of the demand, here the task's start frame
+-- a higher task, and the frame from which its work is counted
 pub record Higher : Type 0 where
   pub task : Task
   pub start : ℕ
@@ -34,20 +35,20 @@ pub record Higher : Type 0 where
 unfoldable pub higher : List Task → ℕ → List Higher
 higher set p = map (λ t. record { task = t; start = start-frame t }) (take p set)
 
--- ⌈t/T⌉
+-- how many jobs a task can have released in a window of t ticks: ⌈t/T⌉
 unfoldable pub releases : ℕ → ℕ → ℕ
 releases t T = (t + (T - 1)) / T
 
--- for each higher task the work of ⌈t/T⌉ of its jobs
+-- the work that the higher tasks can have released in it
 unfoldable pub higher-work : List Higher → ℕ → ℕ
 higher-work [] t = 0
 higher-work (h ∷ hs) t = work (h .task) (h .start) (releases t (h .task .period)) + higher-work hs t
 
--- For frame k of a task and t ≥ 1, the demand at t is: blocking, plus frame k, plus for each higher task the work of ⌈t/T⌉ of its jobs.
+-- the demand at t: blocking, the frame's own time, and what the higher tasks can have released
 unfoldable pub demand : ℕ → ℕ → List Higher → ℕ → ℕ
 demand blocked own above t = blocked + own + higher-work above t
 
--- The response time is the least t ≥ 1 whose demand is at most t, where such a t ≤ D exists.
+-- the completion-time equation: t is the least time from 1 to D that is enough for the demand at it
 pub record IsResponse (demand-at : ℕ → ℕ) (D t : ℕ) : Type 0 where
   pub positive : 1 ≤ t
   pub within : t ≤ D
@@ -75,16 +76,21 @@ response-of set p k = response (demand-of set p k) (deadline-of (task-at set p) 
 unfoldable pub rounds-of : List Task → ℕ → ℕ → ℕ → ℕ
 rounds-of set p k = after-rounds (demand-of set p k) (blocking (lower set p) + frame (task-at set p) k)
 
--- A task passes if its largest frame has a response time.
+-- a task passes if its largest frame has a response time
 unfoldable pub passes : List Task → ℕ → Bool
 passes set p = found (response-of set p (largest-frame (task-at set p)))
+
+-- k is the first frame of the task at place p without a response time
+pub record FirstWithout (set : List Task) (p k : ℕ) : Type 0 where
+  pub frame-in : k < frame-count (task-at set p)
+  pub without : response-of set p k ≡ none
+  pub earlier-have : (j : ℕ) → j < k → (R : ℕ) × (response-of set p j ≡ some R)
 
 -- the answer for a set
 pub data Verdict : Type 0 where
   holds : Verdict
   missed : (place : ℕ) (blocker : Option ℕ) → Verdict
 
--- The set holds if all tasks pass. Otherwise it misses, and the answer names the first task in priority order that does not pass,
--- and its blocker.
+-- holds where every task passes; else the first task in priority order that does not, and its blocker
 unfoldable pub verdict : List Task → Verdict
 verdict set = elim (first 0 (length set) (λ p. not (passes set p))) [ none ↦ holds | some p ↦ missed p (blocker set p) ]

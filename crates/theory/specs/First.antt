@@ -1,4 +1,4 @@
--- The first number of a row that passes a test: the one search that every "first", "lowest-numbered" and "least" of 01 uses.
+-- The first number of a row that passes a test: the one search behind every first, lowest-numbered and least.
 use mathlib.Core.Bool.{Bool, true, false}
 use mathlib.Core.Option.{Option, none, some}
 use Prim.Native.Nat.{ℕ, zero, suc}

@@ -1,4 +1,4 @@
--- 01's tasks, analysis and runs as definitions, in reading order.
+-- Tasks, their analysis and their runs, in reading order.
 pub mod First
 pub mod Tasks
 pub mod Analysis

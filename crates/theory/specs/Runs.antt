@@ -1,4 +1,4 @@
--- 01, "Scheduler rules for runs". Tasks stand in priority order, place 0 is highest; a lane is what a run has of one task.
+-- SCOPE.md, "Runs". Tasks stand in priority order, place 0 is highest; a lane is what a run has of one task.
 use mathlib.Core.Bool.{Bool, true, false}
 use mathlib.Core.List.{List, [], _∷_, _++_, List·Memᴰ}
 use mathlib.Core.Option.{Option, none, some}
@@ -9,7 +9,7 @@ use lib.ListN.{length}
 use Rattle.theory.specs.First.{first}
 use Rattle.theory.specs.Tasks.{Task, task-at, frame-count, frame, next-frame, deadline-of}
 
--- a job: the tick of its release, its frame, and its work that is left. A job with 0 is complete, also at its release.
+-- a job: the tick of its release, its frame, and its work that is left; with none left it is complete, also at its release
 pub data Job : Type 0 where
   job : (released frame left : ℕ) → Job
 
@@ -30,15 +30,15 @@ pub record Input : Type 0 where
   pub release-of : ℕ → Option ℕ
   pub stretch : ℕ
 
--- A run .. lasts any whole number of ticks. For each task it fixes a first frame.
+-- a run: a first frame for each task, a choice for each tick, and how many ticks it lasts
 pub record Run : Type 0 where
   pub first-frame : ℕ → ℕ
   pub input : ℕ → Input
   pub ticks : ℕ
 
--- ---- At each tick releases are seen first.
+-- ---- first the releases
 
--- later jobs take the following frames, going round. Releases of a task are at least T apart.
+-- a lane after a release, if there is one: the job stands last, the next job takes the next frame, a period later at the earliest
 unfoldable pub release-lane : Task → ℕ → Option ℕ → Lane → Lane
 release-lane t now none l = l
 release-lane t now (some w) l =
@@ -49,7 +49,7 @@ unfoldable pub release : List Task → ℕ → Input → State → State
 release set now i s =
     record { lanes = λ p. release-lane (task-at set p) now (i .release-of p) (s .lanes p); owner = s .owner; to-come = s .to-come }
 
--- ---- If a locked stretch is under way, its job has the tick. Otherwise the pending job of highest priority has it, oldest first within a task.
+-- ---- then the job that has the tick
 
 -- the work left of the oldest job that is not complete; 0 if none is pending
 unfoldable pub oldest-left : List Job → ℕ
@@ -61,11 +61,11 @@ oldest-left (job r k (suc w) ∷ js) = suc w
 unfoldable pub pending : Lane → Bool
 pending l = ltb 0 (oldest-left (l .jobs))
 
--- the place of the task whose job has the tick. With no pending job the tick is idle: none.
+-- the place whose job has the tick: the owner of a stretch under way, else the highest place with a pending job; none where the tick is idle
 unfoldable pub pick : List Task → State → Option ℕ
 pick set s = elim (s .to-come) [ zero ↦ first 0 (length set) (λ p. pending (s .lanes p)) | suc n ↦ some (s .owner) ]
 
--- ---- the tick itself
+-- ---- then the tick itself
 
 -- one tick of work on the oldest job that is not complete
 unfoldable pub serve : List Job → List Job
@@ -83,12 +83,12 @@ unfoldable pub stretch-now : ℕ → ℕ → ℕ
 stretch-now zero new = new
 stretch-now (suc n) new = suc n
 
--- what is to come of it after this tick, with the job's work then left: ending early when the job completes.
+-- what is to come of it after this tick: nothing more once its job has no work left
 unfoldable pub stretch-after : ℕ → ℕ → ℕ
 stretch-after zero length = 0
 stretch-after (suc left) length = pred length
 
--- the tick goes to the task at the place picked. A job completes at the end of its last tick.
+-- the state after the tick, which went to the place picked
 unfoldable pub tick : Option ℕ → ℕ → State → State
 tick none new s = s
 tick (some p) new s =
@@ -100,11 +100,11 @@ tick (some p) new s =
 
 -- ---- runs
 
--- A run starts at tick 0 with nothing pending.
+-- nothing is pending when a run begins
 unfoldable pub start-state : Run → State
 start-state run = record { lanes = λ p. record { jobs = []; next = run .first-frame p; free-from = 0 }; owner = 0; to-come = 0 }
 
--- what happens at a tick, in 01's order
+-- a whole tick: releases, pick, tick
 unfoldable pub step : List Task → ℕ → Input → State → State
 step set now i s = let seen = release set now i s in tick (pick set seen) (i .stretch) seen
 
@@ -117,7 +117,7 @@ state-at set run (suc t) = step set t (run .input t) (state-at set run t)
 unfoldable pub seen-at : List Task → Run → ℕ → State
 seen-at set run t = release set t (run .input t) (state-at set run t)
 
--- the run may start a locked stretch with this tick: 1 to Q ticks long; not while one is under way, and not with an idle tick
+-- the longest stretch that may start with a tick: the Q of the place picked; none while one is under way, none with an idle tick
 unfoldable pub longest-stretch : List Task → ℕ → Option ℕ → ℕ
 longest-stretch set (suc n) picked = 0
 longest-stretch set zero none = 0
@@ -125,11 +125,11 @@ longest-stretch set zero (some p) = task-at set p .lock
 
 -- what the run rules ask of the choices at a tick
 pub record LegalTick (set : List Task) (run : Run) (t : ℕ) : Type 0 where
-  -- Releases of a task are at least T apart.
+  -- releases of a task are at least its period apart
   pub apart : (p w : ℕ) → p < length set → run .input t .release-of p ≡ some w → state-at set run t .lanes p .free-from ≤ t
-  -- A job has work of 0 ticks up to its frame time.
+  -- a job has at most its frame's time as work
   pub work-fits : (p w : ℕ) → p < length set → run .input t .release-of p ≡ some w → w ≤ frame (task-at set p) (state-at set run t .lanes p .next)
-  -- The run may start a locked stretch with this tick: 1 to Q ticks long.
+  -- a stretch that starts is no longer than it may be
   pub stretch-fits : run .input t .stretch ≤ longest-stretch set (seen-at set run t .to-come) (pick set (seen-at set run t))
 
 -- a run of the set: its first frames are frames, and each of its ticks keeps the rules
@@ -145,14 +145,14 @@ pub record Left (set : List Task) (run : Run) (p r k t left : ℕ) : Type 0 wher
   pub reached : t ≤ run .ticks
   pub stands : List·Memᴰ (job r k left) (seen-at set run t .lanes p .jobs)
 
--- It takes longer than R if the run reaches release + R with work left.
+-- the job takes longer than R: the run reaches R ticks after its release with work of it left
 unfoldable pub TakesLonger : List Task → Run → (p r k R : ℕ) → Type 0
 TakesLonger set run p r k R = (left : ℕ) × (1 ≤ left) × Left set run p r k (r + R) left
 
--- A job takes the ticks from its release to the end of its last tick.
+-- the job takes R: it is complete R ticks after its release and at no time before
 unfoldable pub Takes : List Task → Run → (p r k R : ℕ) → Type 0
 Takes set run p r k R = Left set run p r k (r + R) 0 × ((x : ℕ) → x < R → TakesLonger set run p r k x)
 
--- A job misses if the run reaches release + D with work of that job left.
+-- the job misses: it takes longer than its deadline
 unfoldable pub Misses : List Task → Run → (p r k : ℕ) → Type 0
 Misses set run p r k = TakesLonger set run p r k (deadline-of (task-at set p) k)

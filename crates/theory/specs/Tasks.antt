@@ -1,4 +1,4 @@
--- 01, "A task and a set": a task, its frames going round, its start frame, and when a set is admitted.
+-- SCOPE.md, "A task and a set": a task, its frames going round, its start frame, and when a set is admitted.
 use mathlib.Core.Bool.{Bool}
 use mathlib.Core.List.{List, [], _∷_}
 use mathlib.Core.Option.{Option·getD}
@@ -7,7 +7,7 @@ use lib.Dec.{leb, eqb}
 use lib.ListN.{length, getD}
 use Rattle.theory.specs.First.{first, every}
 
--- A task has a period T, a deadline D, a lock Q and 1 to 8 frame times, numbered from 0.
+-- a task: the least distance of its releases, the time a job may take, the longest locked stretch, the times of its frames
 pub record Task : Type 0 where
   pub period : ℕ
   pub deadline : ℕ
@@ -30,9 +30,13 @@ next-frame t k = suc k % frame-count t
 unfoldable pub frame : Task → ℕ → ℕ
 frame t k = getD (t .frames) (k % frame-count t) 0
 
--- the deadline of frame k
+-- the deadline of frame k: every frame has the task's one
 unfoldable pub deadline-of : Task → ℕ → ℕ
 deadline-of t k = t .deadline
+
+-- the shortest deadline of a task's frames
+unfoldable pub shortest-deadline : Task → ℕ
+shortest-deadline t = t .deadline
 
 -- the work of n jobs from frame k: the sum of n frames, going round
 unfoldable pub work : Task → ℕ → ℕ → ℕ
@@ -48,8 +52,7 @@ largest (c ∷ cs) = max c (largest cs)
 unfoldable pub largest-frame : Task → ℕ
 largest-frame t = Option·getD (first 0 (frame-count t) (λ k. eqb (frame t k) (largest (t .frames)))) 0
 
--- .. for each length from 1 to the number of frames, the sum of that many frames from the start, going round the list, is at
--- least the same sum from any other frame.
+-- A frame qualifies as start if no other frame begins a greater sum, at any length up to a whole round.
 unfoldable pub Qualifies : Task → ℕ → Type 0
 Qualifies t s = (n k : ℕ) → 1 ≤ n → n ≤ frame-count t → k < frame-count t → work t k n ≤ work t s n
 
@@ -57,18 +60,18 @@ Qualifies t s = (n k : ℕ) → 1 ≤ n → n ≤ frame-count t → k < frame-co
 unfoldable pub qualifies : Task → ℕ → Bool
 qualifies t s = every 1 (frame-count t) (λ n. every 0 (frame-count t) (λ k. leb (work t k n) (work t s n)))
 
--- The start frame is the lowest-numbered that qualifies.
+-- the start frame: the lowest-numbered that qualifies
 unfoldable pub start-frame : Task → ℕ
 start-frame t = Option·getD (first 0 (frame-count t) (qualifies t)) 0
 
--- Well formed: every frame time ≤ D, and D ≤ T. There is a frame, and each time is at least 1.
+-- well formed: there is a frame, and each frame takes at least one tick, at most its deadline, and that at most the period
 pub record WellFormed (t : Task) : Type 0 where
   pub has-frame : 1 ≤ frame-count t
   pub frame-positive : (k : ℕ) → k < frame-count t → 1 ≤ frame t k
   pub frame-in-deadline : (k : ℕ) → k < frame-count t → frame t k ≤ deadline-of t k
   pub deadline-in-period : (k : ℕ) → k < frame-count t → deadline-of t k ≤ t .period
 
--- Accumulatively monotonic: there is a start frame.
+-- accumulatively monotonic: some frame qualifies as start
 pub record Monotonic (t : Task) : Type 0 where
   pub start : ℕ
   pub start-in : start < frame-count t
@@ -77,11 +80,11 @@ pub record Monotonic (t : Task) : Type 0 where
 -- what is asked of each task
 pub record AdmittedTask (t : Task) : Type 0 where
   pub well-formed : WellFormed t
-  -- Lock: Q is at most the largest frame time.
+  -- no locked stretch is longer than the largest frame
   pub lock-rule : t .lock ≤ largest (t .frames)
   pub monotonic : Monotonic t
 
--- a set of one or more such tasks. Its policy is in the order of the list; 01's upper limits on numbers play no part here.
+-- a set of one or more such tasks, in priority order; the upper limits of the sheet play no part here
 pub record Admitted (set : List Task) : Type 0 where
   pub some-task : 1 ≤ length set
   pub each-task : (p : ℕ) → p < length set → AdmittedTask (task-at set p)

@@ -1,4 +1,4 @@
--- 01's worst run of a frame with deadline D, as a run that computes.
+-- SCOPE.md, "Runs": the worst run of a frame, as a run that computes.
 use mathlib.Core.Bool.{true, false}
 use mathlib.Core.List.{List}
 use mathlib.Core.Option.{Option, none, some}
@@ -21,38 +21,36 @@ below-own (some b) q = elim (eqb q b) [ true ↦ blocks | false ↦ absent ]
 unfoldable pub role : List Task → ℕ → ℕ → Role
 role set p q = elim (ltb q p) [ true ↦ above | false ↦ elim (eqb q p) [ true ↦ own | false ↦ below-own (blocker set p) q ] ]
 
--- The blocker is released from its lowest-numbered largest frame, each higher task from its start frame. Tasks without a release
--- have first frame 0.
+-- first frames: a higher task begins at its start frame, the blocker at its lowest-numbered largest frame
 unfoldable pub worst-first : Task → ℕ → Role → ℕ
 worst-first t k above = start-frame t
 worst-first t k own = k
 worst-first t k blocks = largest-frame t
 worst-first t k absent = 0
 
--- released once
+-- one release, at a tick, with that work
 unfoldable pub once : ℕ → ℕ → ℕ → Option ℕ
 once at w now = elim (eqb now at) [ true ↦ some w | false ↦ none ]
 
--- each higher task at 1, 1 + T and so on, with full work
+-- releases from tick 1 on, a period apart, with full work
 unfoldable pub every-period : Task → ℕ → Option ℕ
 every-period t zero = none
 every-period t (suc n) = elim (eqb (n % t .period) 0) [ true ↦ some (frame t (start-frame t + n / t .period)) | false ↦ none ]
 
--- The blocker, if any, is released once at tick 0, with work Q. The frame's own job is released once at tick 1.
+-- the releases: the blocker's before all others, with as much work as it may lock; the frame's own job with its full time
 unfoldable pub worst-release : Task → ℕ → Role → ℕ → Option ℕ
 worst-release t k above now = every-period t now
 worst-release t k own now = once 1 (frame t k) now
 worst-release t k blocks now = once 0 (t .lock) now
 worst-release t k absent now = none
 
--- The blocker's lock is Q. The others have no lock.
+-- the only stretch is the blocker's, as long as it may be
 unfoldable pub worst-stretch : List Task → Option ℕ → ℕ → ℕ
 worst-stretch set none now = 0
 worst-stretch set (some b) zero = task-at set b .lock
 worst-stretch set (some b) (suc n) = 0
 
--- the worst run of frame k of the task at place p. It lasts 1 + D ticks, up to the frame's release + D: so releases are played
--- "below 1 + D" and no later one is.
+-- the worst run of frame k of the task at place p; it ends with the deadline of the frame's job
 unfoldable pub worst-run : List Task → ℕ → ℕ → Run
 worst-run set p k =
     record {
