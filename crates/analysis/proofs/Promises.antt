@@ -76,10 +76,10 @@ module _ (policy : ℕ) (tasks : List Task) (admitted : Admitted tasks) where
   unfolding outcome-of RunOf TaskMisses place
   missed-then-some-miss i b e =
       let (p, c, v, number, _) = said-missed (verdict set) i b e in
-      let (p-in, run, r, k, legal, misses) = named-task-misses set in-order p c v in
+      let (p-in, k, first, legal, misses) = named-task-misses set in-order p c v in
       let p-below : p < length tasks = rw count at p-in in
       let here : place-of order i ≡ p = ap (place-of order) (sym number) ∙ place-back (length tasks) order (order-permutes policy tasks) p p-below in
-      (rw (← number) (number-in (length tasks) order (order-permutes policy tasks) p p-below), run, r, k, legal, rw here misses)
+      (rw (← number) (number-in (length tasks) order (order-permutes policy tasks) p p-below), worst-run set p k, 1, k, legal, rw here misses)
 
   -- And it is the first task in priority order that does not pass, with the blocker of 01.
   pub missed-names : (i : ℕ) (b : Blocker) → outcome-of policy tasks ≡ Missed i b
