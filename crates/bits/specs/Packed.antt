@@ -1,4 +1,4 @@
--- 01, "The sheet": "Packed bits, most significant bit first, no gaps between fields." A bit is a Bool, true for 1.
+-- SCOPE.md, "The sheet": packed bits. A bit is a Bool, true for 1; the most significant bit of a number stands first.
 use mathlib.Core.Bool.{Bool, true, false}
 use mathlib.Core.List.{List, [], _∷_, _++_}
 use Prim.Native.Nat.{ℕ, zero, suc, _+_, _*_, _/_, _%_, _^_, _<_}

@@ -53,7 +53,11 @@ doubled : (c : ℕ) → digits 15 c ++ (false ∷ []) ≡ digits 16 (c * 2 ^ 1)
 unfolding digits
 doubled c = digits-join 15 1 c 0 (lit< tt) ∙ ap (digits 16) (add-zero (c * 2 ^ 1))
 
-polynomial-is : polynomial ≡ digits 16 0x1021
+-- the polynomial's coefficients after the leading one, as a number
+abbrev pattern : ℕ
+pattern = 0x1021
+
+polynomial-is : polynomial ≡ digits 16 pattern
 unfolding polynomial digits
 polynomial-is = refl
 
@@ -69,14 +73,14 @@ shifted-one c b e =
 
 module _ (c : ℕ) (h : c < 2 ^ 16) where
   -- the first bit is 1
-  pub step-high : 0x8000 ≤ c → bitXor ((c * 2 ^ 1) % 2 ^ 16) 0x1021 ≡ shifted 1 c
+  pub step-high : 0x8000 ≤ c → bitXor ((c * 2 ^ 1) % 2 ^ 16) pattern ≡ shifted 1 c
   step-high k =
       sym
       (shifted-one c true (eq-eqb (c / 2 ^ 15 % 2) 1 (omega arith))
       ∙ ap (λ (p : List Bool). value (added p (digits 16 (c * 2 ^ 1)))) polynomial-is
-      ∙ ap value (sym (digits-xor 16 (c * 2 ^ 1) 0x1021))
-      ∙ value-digits 16 (bitXor (c * 2 ^ 1) 0x1021)
-      ∙ xor-mod (c * 2 ^ 1) 0x1021 16)
+      ∙ ap value (sym (digits-xor 16 (c * 2 ^ 1) pattern))
+      ∙ value-digits 16 (bitXor (c * 2 ^ 1) pattern)
+      ∙ xor-mod (c * 2 ^ 1) pattern 16)
 
   -- the first bit is 0
   pub step-low : c < 0x8000 → (c * 2 ^ 1) % 2 ^ 16 ≡ shifted 1 c

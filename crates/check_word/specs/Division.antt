@@ -1,4 +1,4 @@
--- 01, "The sheet": "Check word, 16 bits, over every byte before it: polynomial x^16 + x^12 + x^5 + 1 (as in ITU-T V.41), started at all ones, most significant bit first, no final change; the high byte stands first."
+-- SCOPE.md, "The sheet": the check word, by long division of bits, most significant bit first.
 use mathlib.Core.Bool.{Bool, true, false, xor, cond, _&&_}
 use mathlib.Core.List.{List, [], _∷_, _++_}
 use Prim.Native.Nat.{ℕ, zero, suc, _+_, _-_, _^_}
@@ -12,7 +12,7 @@ added [] bs = bs
 added (p ∷ ps) [] = []
 added (p ∷ ps) (b ∷ bs) = xor p b ∷ added ps bs
 
--- "polynomial x^16 + x^12 + x^5 + 1": its sixteen coefficients after the leading one
+-- x^16 + x^12 + x^5 + 1: its sixteen coefficients after the leading one
 unfoldable pub polynomial : List Bool
 polynomial = digits 16 (2 ^ 16 + 2 ^ 12 + 2 ^ 5 + 1)
 
@@ -26,19 +26,19 @@ divided (suc n) (b ∷ bs) = divided n (cond b (added polynomial bs) bs)
 unfoldable pub remainder : List Bool → List Bool
 remainder bs = divided (length bs - 16) bs
 
--- "started at all ones": the division starts with the first sixteen bits inverted
+-- the start at all ones: the first sixteen bits are inverted
 unfoldable pub started : List Bool → List Bool
 started bs = added (replicate 16 true) bs
 
--- the check word of a byte string: what is left of its bits and sixteen zeros, the check word's own room; "no final change"
+-- the check word of a byte string: what is left of its bits and sixteen zeros, the check word's own room; nothing is changed at the end
 unfoldable pub check-word : List ℕ → ℕ
 check-word s = value (remainder (started (bits-of s ++ replicate 16 false)))
 
--- "the high byte stands first": a string and its check word behind it
+-- a string and its check word behind it, the high byte first
 unfoldable pub seal : List ℕ → List ℕ
 seal s = s ++ bytes-of 2 (digits 16 (check-word s))
 
--- "over every byte before it": all but the last two bytes
+-- all but the last two bytes: what the check word is over
 unfoldable pub body : List ℕ → List ℕ
 body s = take (length s - 2) s
 
