@@ -1,2 +1,2 @@
--- 01, "Sets worked by hand": cases A to M, one table.
+-- The table of worked sets.
 pub mod Table

@@ -7,4 +7,3 @@ pub mod Keys
 pub mod ByKeys
 pub mod Below
 pub mod Laws
-pub mod Examples
