@@ -1,4 +1,4 @@
--- What other crates cite stands in Order and Laws, case L in Examples; the rest stands below these.
+-- What other crates cite stands in Order and Laws; the rest stands below these.
 pub mod Higher
 pub mod Order
 pub mod Records
