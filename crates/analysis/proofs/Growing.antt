@@ -33,7 +33,7 @@ count-is o n e l = rw (length-map (take (o .count) (o .tasks)) task-in, length-t
 pub task-is : (o : Ordered) (p : ℕ) (d : Record) → p < length (tasks-in-order o) → length (o .tasks) ≡ 16 → task-in (getD (o .tasks) p d) ≡ task-at (tasks-in-order o) p
 task-is o p d h l =
     let n = min (o .count) 16 in
-    let same : tasks-in-order o ≡ map task-in (take n (o .tasks)) = in-use o 16 n refl refl l in
+    let same : tasks-in-order o ≡ map task-in (take n (o .tasks)) = in-use o n (refl, l) in
     let there : p < n = omega (arith, count-is o n refl l) in
     sym (ap (λ (ts : List Task). task-at ts p) same ∙ task-there (o .tasks) n p d there (omega arith))
 

@@ -11,13 +11,15 @@ use lib.Seq.{drop-cons, length-take-le}
 use Rattle.theory.specs.Tasks.{Task, task-at, largest}
 use Rattle.theory.specs.Analysis.{lower, largest-lock, blocking, blocker}
 use Rattle.theory.proofs.Blocking.{IsBlocker, blocker-when, no-blocker-when, largest-lock-last}
+use Rattle.sheet.specs.Constants.{most-tasks}
 use Rattle.sheet.specs.Tasks.{task-in}
 use Rattle.sheet.specs.declared.Task.{Task as Record}
-use Rattle.order.specs.Below.{FirstLargest}
+use Rattle.sheet.proofs.Records.{taken-places}
+use Rattle.order.specs.Inside.Below.{FirstLargest}
 use Rattle.order.specs.Ordered.{tasks-in-order, blocking-at, blocker-at}
 use Rattle.order.specs.declared.Ordered.{Ordered}
 use Rattle.order.specs.declared.Blocker.the-variants.{At, Nobody}
-use Rattle.order.proofs.Records.{take-min, task-there}
+use Rattle.order.proofs.Records.{task-there}
 
 module _ (tasks : List Record) (n : ℕ) where
   -- the largest lock from place q on
@@ -102,19 +104,18 @@ module _ (tasks : List Record) (n : ℕ) where
       }
 
 -- the tasks of an ordered set are the records in use
-pub in-use : (o : Ordered) (k n : ℕ) → n ≡ min (o .count) k → k ≡ 16 → length (o .tasks) ≡ 16 → tasks-in-order o ≡ map task-in (take n (o .tasks))
+pub in-use : (o : Ordered) (n : ℕ) → (n ≡ min (o .count) most-tasks) × (length (o .tasks) ≡ most-tasks)
+    → tasks-in-order o ≡ map task-in (take n (o .tasks))
 unfolding tasks-in-order
-in-use o k n e q w =
-    ap (map task-in) (sym (take-min (o .count) (o .tasks)))
-    ∙ ap (λ i. map task-in (take i (o .tasks))) (sym (e ∙ ap (min (o .count)) (q ∙ sym w)))
+in-use o n used = rw (used .0) (ap (map task-in) (sym (taken-places (o .tasks) (o .count) most-tasks (used .1))))
 
-module _ (o : Ordered) (k n p : ℕ) (e : n ≡ min (o .count) k) (q : k ≡ 16) (w : length (o .tasks) ≡ 16) where
+module _ (o : Ordered) (n p : ℕ) (used : (n ≡ min (o .count) most-tasks) × (length (o .tasks) ≡ most-tasks)) where
   ts : List Task
   ts = map task-in (take n (o .tasks))
 
   same : tasks-in-order o ≡ ts
   unfolding ts
-  same = in-use o k n e q w
+  same = in-use o n used
 
   count-of : length ts ≡ n
   unfolding ts
@@ -140,7 +141,7 @@ module _ (o : Ordered) (k n p : ℕ) (e : n ≡ min (o .count) k) (q : k ≡ 16)
     unfolding ts
     blocker-small h = none-at (no-blocker-when ts p (omega (arith, f .is-largest)))
 
-    pub blocker-place : 1 ≤ m → at < 16
+    pub blocker-place : 1 ≤ m → at < most-tasks
     unfolding ts
     blocker-place one = omega (arith, f .is-there one, count-of)
 

@@ -1,5 +1,4 @@
 -- Priority order by policy, and what stands below a task.
 pub mod Order
 pub mod Ordered
-pub mod Keys
-pub mod Below
+pub mod Inside

@@ -1,4 +1,4 @@
--- What an answer says: a time is the response time, as 01 has it, and no time means that at every time up to the deadline the demand is more.
+-- What an answer says: a time is the response time, and no time means that at every time up to the deadline the demand is more.
 use mathlib.Core.Logic.{_↔_}
 use mathlib.Core.Option.{Option, none, some}
 use mathlib.Core.Path.{_≡_, refl, ap}

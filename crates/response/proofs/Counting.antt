@@ -3,7 +3,7 @@ use mathlib.Core.List.{List}
 use mathlib.Core.Path.{_≡_, refl, sym, ap, _∙_}
 use Prim.Native.Nat.{ℕ, zero, suc, _+_, _*_, _%_, _≤_, _<_, min}
 use native.Mathlib.Decide.{decLe, ℕ-discrete}
-use native.Mathlib.Nat.{le-antisymm, le-of-eq, mod-lt, mod-self, mod-eq-of-lt, mod-add-mod, add-assoc, add-suc, add-zero, add-mul, suc-mul}
+use native.Mathlib.Nat.{le-antisymm, le-of-eq, mod-lt, mod-eq-of-lt, mod-add-mod, add-assoc, add-suc, add-zero, add-mul, suc-mul}
 use native.Mathlib.Numerals.{add-one}
 use native.Mathlib.Omega.{arith}
 use borrow.Author.Tests.{eq-eqb, ne-eqb}
@@ -13,15 +13,12 @@ use Rattle.theory.specs.Tasks.{Task, frame-count, frame, work}
 use Rattle.theory.specs.Analysis.{Higher, releases}
 use Rattle.theory.proofs.Laws.{work-zero, work-suc, work-add, work-mono, work-mod, releases-more}
 use Rattle.sheet.specs.Constants.{most-tasks, most-frames}
-use Rattle.sheet.specs.Tasks.{task-in}
+use Rattle.sheet.specs.Tasks.{task-in, next-round}
+use Rattle.sheet.proofs.Rounds.{round-is}
 use Rattle.response.specs.Response.{higher-in}
-use Rattle.response.specs.Counting.{work-of, Counts, jobs, idle, no-higher, nothing-counted, Begun, Ready, Advanced}
+use Rattle.response.specs.Inside.Counting.{work-of, Counts, jobs, idle, no-higher, nothing-counted, Begun, Advancing, Advanced}
 use Rattle.response.specs.declared.Higher.{Higher as HigherRecord}
 use Rattle.response.specs.declared.Counted.{Counted}
-
--- the frame that follows, by a comparison
-pub wraps : {k m : ℕ} → suc k ≡ m → 0 ≡ suc k % m
-wraps {k} {m} e = rw e (sym (mod-self m))
 
 -- ---- the frames of a task, as an array holds them
 
@@ -80,12 +77,12 @@ module _ (h : Higher) where
   not-yet {m} ne q some = rw (nothing-counted, ne-eqb (h .task .period) 0 ne, ne-eqb (frame-count (h .task)) 0 (λ e. some (sym q ∙ e)), q)
 
 pub begun-none : (hs : List HigherRecord) (cs : List Counted) → length cs ≡ most-tasks → Begun hs 0 cs
-begun-none hs cs e = record { places = e; each = λ j l. let z : ⊥ = omega arith in absurd z }
+begun-none hs cs e = record { room = e; each = λ j l. let z : ⊥ = omega arith in absurd z }
 
 pub begun-more : {hs : List HigherRecord} {i : ℕ} {cs : List Counted} (c : Counted) → Begun hs i cs → i < most-tasks
     → c ≡ nothing-counted (higher-in (getD hs i no-higher)) → Begun hs (i + 1) (set cs i c)
 begun-more {hs} {i} {cs} c b l e =
-    record { places = length-set cs i c ∙ b .places; each = λ j k. at j k (ℕ-discrete j i) }
+    record { room = length-set cs i c ∙ b .room; each = λ j k. at j k (ℕ-discrete j i) }
   where
     at : (j : ℕ) → j < i + 1 → Dec (j ≡ i) → getD (set cs i c) j (at-first 0) ≡ nothing-counted (higher-in (getD hs j no-higher))
     at j k (yes q) = rw (q, getD-set-same cs i c (at-first 0) (omega arith)) e
@@ -113,12 +110,12 @@ module _ {T m : ℕ} {fs : List ℕ} {u₀ k₀ s₀ : ℕ} where
   sum-next : {u k s : ℕ} (w : More T m fs u₀ k₀ s₀ u k s) → s + getD fs k 0 ≡ s₀ + sum-from fs m k₀ (suc (w .j))
   sum-next w = rw (sum-suc fs m k₀ (w .j), ← w .next-is) (omega arith)
 
-  pub more-job : {u k s k′ v : ℕ} → More T m fs u₀ k₀ s₀ u k s → k′ ≡ suc k % m → v ≡ getD fs k 0 → More T m fs u₀ k₀ s₀ (u + T) k′ (s + v)
-  more-job {u} {k} {s} w e q =
+  pub more-job : {u k s k′ v : ℕ} → More T m fs u₀ k₀ s₀ u k s → k < m → k′ ≡ next-round k m → v ≡ getD fs k 0 → More T m fs u₀ k₀ s₀ (u + T) k′ (s + v)
+  more-job {u} {k} {s} w l e q =
       record {
         j = suc (w .j);
         until-is = rw (suc-mul (w .j) T) (omega arith);
-        next-is = rw (e, w .next-is, ← add-one ((k₀ + w .j) % m), mod-add-mod, add-one (k₀ + w .j), add-suc k₀ (w .j));
+        next-is = rw (e, round-is k m l, w .next-is, ← add-one ((k₀ + w .j) % m), mod-add-mod, add-one (k₀ + w .j), add-suc k₀ (w .j));
         sum-is = rw q (sum-next w);
       }
 
@@ -139,7 +136,7 @@ pub work-of-mono : (h : Higher) {a b : ℕ} → a ≤ b → work-of h a ≤ work
 unfolding work-of
 work-of-mono h l = work-mono (h .task) (h .start) l
 
-module _ {h : Higher} {c : Counted} {total x deadline : ℕ} (ready : Ready h c total x deadline) {fs : List ℕ} {m : ℕ} (framed : Framed (h .task) fs m) where
+module _ {h : Higher} {c : Counted} {total x deadline : ℕ} (ready : Advancing h c total x deadline) {fs : List ℕ} {m : ℕ} (framed : Framed (h .task) fs m) where
   some-frame : 1 ≤ m
   some-frame = rw (← framed .many) (ready .counts .has-frame)
 

@@ -14,7 +14,7 @@ use Rattle.theory.proofs.Laws.{MoreBelow, more-below-start, more-below-round, m
 use Rattle.theory.proofs.Demand.{within-refl, demand-least}
 use Rattle.sheet.specs.Constants.{most-tasks}
 use Rattle.response.specs.Response.{higher-in, above-in, response-to}
-use Rattle.response.specs.Counting.{work-of, no-higher, Begun, Ready, Advanced}
+use Rattle.response.specs.Inside.Counting.{work-of, no-higher, Begun, Advancing, Advanced}
 use Rattle.response.specs.declared.Above.{Above}
 use Rattle.response.specs.declared.Counted.{Counted}
 use Rattle.response.specs.declared.Response.the-variants.{At, Never}
@@ -54,9 +54,9 @@ mixed-most (h ∷ hs) (suc i) x y l = add-le-add (le-refl (work-at h x)) (mixed-
 
 -- ---- a round
 
--- the task at place j above
-unfoldable pub place : Above → ℕ → Higher
-place above j = higher-in (getD (above .tasks) j no-higher)
+-- the task above that stands j-th
+unfoldable pub task-above : Above → ℕ → Higher
+task-above above j = higher-in (getD (above .tasks) j no-higher)
 
 -- and its count
 unfoldable pub count-at : List Counted → ℕ → Counted
@@ -67,8 +67,8 @@ module _ (above : Above) (full : length (above .tasks) ≡ most-tasks) where
   unfolding above-in
   above-length = length-map (take (above .count) (above .tasks)) higher-in ∙ length-take (above .count) (above .tasks) ∙ ap (min (above .count)) full
 
-  above-at : {j : ℕ} → j < min (above .count) most-tasks → getD (above-in above) j (higher-in no-higher) ≡ place above j
-  unfolding above-in place
+  above-at : {j : ℕ} → j < min (above .count) most-tasks → getD (above-in above) j (higher-in no-higher) ≡ task-above above j
+  unfolding above-in task-above
   above-at {j} l =
       List·getD-map higher-in (take (above .count) (above .tasks)) j no-higher ∙ ap higher-in (getD-take (above .count) (above .tasks) j no-higher (omega arith))
 
@@ -78,8 +78,8 @@ pub record Round (above : Above) (base i x : ℕ) (cs : List Counted) (total : �
   pub earlier : y ≤ x
   pub full : length (above .tasks) ≡ most-tasks
   pub places : length cs ≡ most-tasks
-  pub counted : (j : ℕ) → j < i → UpTo (place above j) x (count-at cs j)
-  pub uncounted : (j : ℕ) → i ≤ j → j < min (above .count) most-tasks → UpTo (place above j) y (count-at cs j)
+  pub counted : (j : ℕ) → j < i → UpTo (task-above above j) x (count-at cs j)
+  pub uncounted : (j : ℕ) → i ≤ j → j < min (above .count) most-tasks → UpTo (task-above above j) y (count-at cs j)
   pub total-is : total ≡ base + mixed (above-in above) i x y
 
 none-yet : (hs : List Higher) → higher-work hs 0 ≡ 0
@@ -90,29 +90,29 @@ none-yet (h ∷ hs) = omega (arith, work-at-zero h, none-yet hs)
 -- before the first round
 pub round-begins : (above : Above) (base x : ℕ) {cs : List Counted} → length (above .tasks) ≡ most-tasks → Begun (above .tasks) (min (above .count) most-tasks) cs
     → Round above base 0 x cs base
-unfolding place count-at
+unfolding task-above count-at
 round-begins above base x full b =
     record {
       y = 0;
       earlier = omega arith;
       full = full;
-      places = b .places;
+      places = b .room;
       counted = λ j l. let z : ⊥ = omega arith in absurd z;
-      uncounted = λ j l k. rw (b .each j k) (up-to-begins (place above j));
+      uncounted = λ j l k. rw (b .each j k) (up-to-begins (task-above above j));
       total-is = rw (mixed-none (above-in above) x 0, none-yet (above-in above)) (sym (add-zero base));
     }
 
 module _ {above : Above} {base i x : ℕ} {cs : List Counted} {total : ℕ} (r : Round above base i x cs total) where
   module _ (l : i < min (above .count) most-tasks) where
-    next : mixed (above-in above) (suc i) x (r .y) + work-at (place above i) (r .y) ≡ mixed (above-in above) i x (r .y) + work-at (place above i) x
+    next : mixed (above-in above) (suc i) x (r .y) + work-at (task-above above i) (r .y) ≡ mixed (above-in above) i x (r .y) + work-at (task-above above i) x
     next = rw (above-at above (r .full) l) at (mixed-next (above-in above) i x (r .y) (higher-in no-higher) (rw (above-length above (r .full)) l))
 
-    this : UpTo (place above i) (r .y) (count-at cs i)
+    this : UpTo (task-above above i) (r .y) (count-at cs i)
     this = r .uncounted i (le-refl i) l
 
     -- one task more is counted up to x
     round-next : {cs′ : List Counted} {total′ : ℕ} → length cs′ ≡ most-tasks → ((j : ℕ) → (j ≡ i → ⊥) → count-at cs′ j ≡ count-at cs j)
-        → UpTo (place above i) x (count-at cs′ i) → total′ + work-at (place above i) (r .y) ≡ total + work-at (place above i) x
+        → UpTo (task-above above i) x (count-at cs′ i) → total′ + work-at (task-above above i) (r .y) ≡ total + work-at (task-above above i) x
         → Round above base (i + 1) x cs′ total′
     round-next {cs′} {total′} e same lane sum =
         record {
@@ -125,26 +125,26 @@ module _ {above : Above} {base i x : ℕ} {cs : List Counted} {total : ℕ} (r :
           total-is = rw (add-one i) (omega (arith, next, r .total-is));
         }
       where
-        before : (j : ℕ) → j < i + 1 → Dec (j ≡ i) → UpTo (place above j) x (count-at cs′ j)
+        before : (j : ℕ) → j < i + 1 → Dec (j ≡ i) → UpTo (task-above above j) x (count-at cs′ j)
         before j k (yes q) = rw q lane
         before j k (no n) = rw (same j n) (r .counted j (omega arith))
 
     -- it has no job to count
     pub round-skip : x ≤ count-at cs i .until → Round above base (i + 1) x cs total
     round-skip u =
-        let stays : UpTo (place above i) x (count-at cs i) × (work-at (place above i) x ≡ work-at (place above i) (r .y)) = up-to-stays this (r .earlier) u in
+        let stays : UpTo (task-above above i) x (count-at cs i) × (work-at (task-above above i) x ≡ work-at (task-above above i) (r .y)) = up-to-stays this (r .earlier) u in
         round-next (r .places) (λ j n. refl) (stays .0) (omega (arith, stays .1))
 
     module _ {deadline : ℕ} (u : count-at cs i .until < x) (t : x ≤ deadline) (d : deadline < 2 ^ 32) where
-      pub round-ready : total ≤ deadline → Ready (place above i) (count-at cs i) total x deadline
+      pub round-ready : total ≤ deadline → Advancing (task-above above i) (count-at cs i) total x deadline
       round-ready o = up-to-ready u t d this o
 
-      module _ {s : Step} (a : Advanced (place above i) (count-at cs i) total x deadline s) where
+      module _ {s : Step} (a : Advanced (task-above above i) (count-at cs i) total x deadline s) where
         -- its jobs are counted
         pub round-count : s .total ≤ deadline → Round above base (i + 1) x (set cs i (s .counted)) (s .total)
         unfolding count-at
         round-count o =
-            let on : UpTo (place above i) x (s .counted) × (s .total + work-at (place above i) (r .y) ≡ total + work-at (place above i) x) = up-to-on u t d a this o in
+            let on : UpTo (task-above above i) x (s .counted) × (s .total + work-at (task-above above i) (r .y) ≡ total + work-at (task-above above i) x) = up-to-on u t d a this o in
             round-next
             (length-set cs i (s .counted) ∙ r .places)
             (λ j n. getD-set-other cs i j (s .counted) (at-first 0) n)

@@ -8,7 +8,7 @@ use lib.ListN.{List·getD-eq-default}
 use Rattle.theory.specs.Tasks.{frame-count, frame}
 use Rattle.theory.specs.Analysis.{Higher, releases}
 use Rattle.theory.proofs.Laws.{work-zero, work-suc, releases-more, releases-mono}
-use Rattle.response.specs.Counting.{work-of, Counts, jobs, nothing-counted, Ready, Advanced}
+use Rattle.response.specs.Inside.Counting.{work-of, Counts, jobs, nothing-counted, Advancing, Advanced}
 use Rattle.response.specs.declared.Counted.{Counted}
 use Rattle.response.specs.declared.Step.{Step}
 use Rattle.response.proofs.Counting.{work-of-mono, no-period, no-frame, not-yet}
@@ -97,7 +97,7 @@ jobs-is k = rw (k .until-is) (mul-div-cancel _ (k .has-period))
 
 -- where there are some, they are counted
 module _ {h : Higher} {y x total deadline : ℕ} {c : Counted} (u : c .until < x) (t : x ≤ deadline) (d : deadline < 2 ^ 32) where
-  pub up-to-ready : UpTo h y c → total ≤ deadline → Ready h c total x deadline
+  pub up-to-ready : UpTo h y c → total ≤ deadline → Advancing h c total x deadline
   up-to-ready (counting k) o = record { counts = rw (jobs-is k) k; not-all = u; time = t; not-over = o; small = d }
   up-to-ready (without-work v w) o = let z : ⊥ = omega arith in absurd z
 

@@ -1,3 +1,3 @@
--- The response time to given tasks above, by the definitions of the theory; and how the code counts their jobs.
+-- The response time to given tasks above, by the definitions of the theory.
 pub mod Response
-pub mod Counting
+pub mod Inside

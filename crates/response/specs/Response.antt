@@ -1,4 +1,4 @@
--- 01, "The analysis": "The response time of frame k is the least t ≥ 1 whose demand is at most t, where such a t ≤ D exists."
+-- The response time, for tasks above that are given as records (SCOPE.md, "The analysis").
 use mathlib.Core.List.{List, map}
 use mathlib.Core.Option.{Option, none, some}
 use Prim.Native.Nat.{ℕ}

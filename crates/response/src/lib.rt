@@ -1,10 +1,10 @@
 // The completion-time equation: the least time at which blocking, a frame and the work of the tasks above are done.
 ghost use mathlib.Core.Path.{_≡_};
-ghost use Prim.Native.Nat.{suc, _%_, _<_, min, max};
+ghost use Prim.Native.Nat.{min, max};
 ghost use lib.ListN.{length};
-ghost use Rattle.sheet.specs.Constants.{most-tasks, most-frames};
+ghost use Rattle.sheet.specs.Constants.{most-tasks};
 ghost use Rattle.response.specs.Response.{higher-in, response-to};
-ghost use Rattle.response.specs.Counting.{nothing-counted, Begun, Ready, Advanced};
+ghost use Rattle.response.specs.Inside.Counting.{nothing-counted, Begun, Advancing, Advanced};
 use sheet::Sheet;
 use sheet::Task;
 
@@ -41,43 +41,14 @@ struct Step {
 // Past every time that a deadline can be: a task with no work has no job to count.
 const IDLE: u64 = 4_294_967_296;
 
-// Sums of times are held in 64 bits.
-fn wide(x: u32) -> u64
-    ensures { λ r. ⌜ (r ≡ x) × (r < 4294967296) ⌝ }
-{
-    x as u64
-}
-
-// How many of a record's frames are in use.
-fn frames_in(count: u32, frames: [u32; 8]) -> usize
-    ensures { λ r. ⌜ (r ≡ min count most-frames) × (length frames ≡ most-frames) ⌝ }
-{
-    if count < Sheet::MOST_FRAMES {
-        return count as usize;
-    }
-    Sheet::MOST_FRAMES as usize
-}
-
 // How many of the tasks above there are.
-fn tasks_in(count: u32, tasks: [Higher; 16]) -> usize
+fn above_in(count: u32, tasks: [Higher; 16]) -> usize
     ensures { λ r. ⌜ (r ≡ min count most-tasks) × (length tasks ≡ most-tasks) ⌝ }
 {
     if count < Sheet::MOST_TASKS {
         return count as usize;
     }
     Sheet::MOST_TASKS as usize
-}
-
-// The frame after a frame, going round.
-fn next_frame(k: usize, count: usize) -> usize
-    requires { ⌜ k < count ⌝ }
-    ensures { λ r. ⌜ r ≡ suc k % count ⌝ }
-{
-    let next = k + 1;
-    if next == count {
-        return 0;
-    }
-    next
 }
 
 // Times are counted from 1.
@@ -100,7 +71,7 @@ fn begin(h: Higher) -> Counted
     };
     let task = h.task;
     let frames = task.frames;
-    let count = frames_in(task.frame_count, frames);
+    let count = sheet::frames_in(task.frame_count, frames);
     if task.period == 0 {
         return idle;
     }
@@ -117,7 +88,7 @@ fn begin_all(above: Above) -> [Counted; 16]
     ensures { λ r. ⌜ Begun (above .tasks) (min (above .count) most-tasks) r ⌝ }
 {
     let tasks = above.tasks;
-    let count = tasks_in(above.count, tasks);
+    let count = above_in(above.count, tasks);
     let idle = Counted {
         until: IDLE,
         next: 0,
@@ -133,22 +104,22 @@ fn begin_all(above: Above) -> [Counted; 16]
 
 // Counts the jobs of a higher task that are released before x, as long as the total is within the deadline.
 fn advance(h: Higher, from: Counted, total: u64, x: u64, deadline: u64) -> Step
-    requires { ⌜ Ready (higher-in h) from total x deadline ⌝ }
+    requires { ⌜ Advancing (higher-in h) from total x deadline ⌝ }
     ensures { λ r. ⌜ Advanced (higher-in h) from total x deadline r ⌝ }
 {
     let task = h.task;
     let frames = task.frames;
-    let period = wide(task.period);
-    let count = frames_in(task.frame_count, frames);
+    let period = sheet::wide(task.period);
+    let count = sheet::frames_in(task.frame_count, frames);
     let mut until = from.until;
     let mut next = from.next;
     let mut sum = total;
     while until < x {
-        sum += wide(frames[next]);
+        sum += sheet::wide(frames[next]);
         if deadline < sum {
             break;
         }
-        next = next_frame(next, count);
+        next = sheet::next_frame(next, count);
         until += period;
     }
     Step {
@@ -162,10 +133,10 @@ fn advance(h: Higher, from: Counted, total: u64, x: u64, deadline: u64) -> Step
 pub fn respond(above: Above, blocked: u32, own: u32, deadline: u32) -> Response
     ensures { λ r. ⌜ r ≡ response-to above blocked own deadline ⌝ }
 {
-    let limit = wide(deadline);
-    let count = tasks_in(above.count, above.tasks);
+    let limit = sheet::wide(deadline);
+    let count = above_in(above.count, above.tasks);
     let mut counted = begin_all(above);
-    let mut total = wide(blocked) + wide(own);
+    let mut total = sheet::wide(blocked) + sheet::wide(own);
     let mut x = at_least_one(total);
     while x <= limit {
         let mut i = 0;

@@ -2,9 +2,10 @@
 ghost use mathlib.Core.Path.{_≡_};
 ghost use Prim.Native.Nat.{_<_, _^_, min};
 ghost use lib.ListN.{length};
+ghost use Rattle.theory.specs.Tasks.{deadline-of, shortest-deadline};
 ghost use Rattle.sheet.specs.Pairs.{the-widths, the-limits, the-policies};
 ghost use Rattle.sheet.specs.Constants.{most-tasks, most-frames};
-ghost use Rattle.sheet.specs.Tasks.{blank-record, blank-set, next-round};
+ghost use Rattle.sheet.specs.Tasks.{task-in, blank-record, blank-set, next-round};
 ghost use Rattle.sheet.specs.Admission.{known-policy, miscounted};
 ghost use Rattle.sheet.specs.Refusals.{number-of, task-of-refusal};
 
@@ -199,6 +200,20 @@ pub fn next_frame(k: usize, count: usize) -> usize
         return 0;
     }
     k + 1
+}
+
+// The deadline of frame k.
+pub fn deadline_of(task: Task, k: usize) -> u32
+    ensures { λ r. ⌜ r ≡ deadline-of (task-in task) k ⌝ }
+{
+    task.deadline
+}
+
+// The shortest deadline of a task's frames.
+pub fn shortest_deadline(task: Task) -> u32
+    ensures { λ r. ⌜ r ≡ shortest-deadline (task-in task) ⌝ }
+{
+    task.deadline
 }
 
 // Sums of times are held in 64 bits.

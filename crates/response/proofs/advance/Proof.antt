@@ -4,6 +4,7 @@ use native.Mathlib.Nat.{mod-lt}
 use native.Mathlib.Omega.{arith}
 use borrow.Author.Needs.{needs}
 use Rattle.sheet.specs.Tasks.{task-in}
+use Rattle.sheet.proofs.Rounds.{round-is}
 use Rattle.response.specs.Response.{higher-in}
 use Rattle.response.proofs.Counting.{Framed, framed-in, More, next-in, more-none, more-job, all-jobs, over-deadline}
 use Rattle.response.proofs.advance.Statement.{statement}
@@ -55,8 +56,8 @@ loop-less c = omega arith
 
 loop-again : tie.Need-loop-again Inv-loop μ-loop
 loop-again c = (
-  more-job (c .before .before .before .before .loop .inv .0) (c .next-frame .ensures) (c .before .before .wide2 .ensures .0),
-  rw (c .next-frame .ensures) (mod-lt _ (omega arith)),
+  more-job (c .before .before .before .before .loop .inv .0) (c .before .before .before .before .loop .inv .1) (c .next-frame .ensures) (c .before .before .wide2 .ensures .0),
+  rw (c .next-frame .ensures, round-is _ _ (c .before .before .before .before .loop .inv .1)) (mod-lt _ (omega arith)),
   omega arith,
   omega arith,
 )

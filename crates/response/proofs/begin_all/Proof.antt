@@ -3,7 +3,8 @@ use mathlib.Core.Path.{_≡_}
 use Prim.Native.Nat.{_-_, _≤_, min}
 use native.Mathlib.Omega.{arith}
 use borrow.Author.Needs.{needs}
-use Rattle.response.specs.Counting.{Begun}
+use Rattle.sheet.specs.Constants.{most-tasks}
+use Rattle.response.specs.Inside.Counting.{Begun}
 use Rattle.response.proofs.Counting.{begun-none, begun-more}
 use Rattle.response.proofs.begin_all.Statement.{statement}
 use Rattle.response.proofs.begin_all.Tie as tie
@@ -14,8 +15,8 @@ Inv-loop tasks count counted₀ i₀ counted i = (i ≤ count) × Begun tasks i 
 abbrev μ-loop : tie.MeasureT-loop
 μ-loop tasks count counted₀ i₀ counted i = count - i
 
-tasks-in-requires : tie.Need-tasks-in-requires Inv-loop μ-loop
-tasks-in-requires c κs = search needs
+above-in-requires : tie.Need-above-in-requires Inv-loop μ-loop
+above-in-requires c κs = search needs
 
 loop-holds : tie.Need-loop-holds Inv-loop μ-loop
 loop-holds c = (omega arith, begun-none _ _ (search needs))
@@ -46,7 +47,7 @@ loop-again c = (omega arith, begun-more _ (c .before .before .before .loop .inv 
 
 returns : tie.Need-returns Inv-loop μ-loop
 returns c =
-    let all : c .before .loop .i ≡ min (c .before .before .before .before .args .above .count) 16 = omega arith in
+    let all : c .before .loop .i ≡ min (c .before .before .before .before .args .above .count) most-tasks = omega arith in
     rw all at (c .before .loop .inv .1)
 
 pub begin-all-spec : {M : Type 1} → statement M
@@ -55,7 +56,7 @@ begin-all-spec =
     (tie.spec
     Inv-loop
     μ-loop
-    tasks-in-requires
+    above-in-requires
     loop-holds
     mul-h
     array-copy-out-h

@@ -3,7 +3,7 @@ use mathlib.Core.Logic.{⊎-elim}
 use Prim.Native.Nat.{suc, _+_, _-_, _≤_}
 use native.Mathlib.Omega.{arith}
 use borrow.Author.Needs.{needs}
-use Rattle.response.proofs.Rounds.{place, count-at, Round, round-begins, round-skip, round-ready, round-count, round-most, round-total, round-again}
+use Rattle.response.proofs.Rounds.{task-above, count-at, Round, round-begins, round-skip, round-ready, round-count, round-most, round-total, round-again}
 use Rattle.response.proofs.Rounds.{NotBefore, not-before-first, not-before-demand, found, never, never-enough}
 use Rattle.response.proofs.respond.Statement.{statement}
 use Rattle.response.proofs.respond.Tie as tie
@@ -23,8 +23,8 @@ abbrev μ-loop : tie.MeasureT-loop
 wide-requires : tie.Need-wide-requires Inv-loop2 μ-loop2 Inv-loop μ-loop
 wide-requires c κs = search needs
 
-tasks-in-requires : tie.Need-tasks-in-requires Inv-loop2 μ-loop2 Inv-loop μ-loop
-tasks-in-requires c κs = search needs
+above-in-requires : tie.Need-above-in-requires Inv-loop2 μ-loop2 Inv-loop μ-loop
+above-in-requires c κs = search needs
 
 begin-all-requires : tie.Need-begin-all-requires Inv-loop2 μ-loop2 Inv-loop μ-loop
 begin-all-requires c κs = search needs
@@ -44,7 +44,7 @@ at-least-one-requires c κs = search needs
 loop-holds : tie.Need-loop-holds Inv-loop2 μ-loop2 Inv-loop μ-loop
 loop-holds c = (
   rw (c .before .before .wide2 .ensures .0, c .before .wide3 .ensures .0)
-      (round-begins _ _ _ (c .before .before .before .before .tasks-in .ensures .1) (c .before .before .before .begin-all .ensures)),
+      (round-begins _ _ _ (c .before .before .before .before .above-in .ensures .1) (c .before .before .before .begin-all .ensures)),
   rw (c .at-least-one .ensures, c .before .before .wide2 .ensures .0, c .before .wide3 .ensures .0) (not-before-first _ _ _),
   omega arith,
 )
@@ -65,11 +65,11 @@ element-copy-out-h : tie.Need-element-copy-out-h Inv-loop2 μ-loop2 Inv-loop μ-
 element-copy-out-h c = omega arith
 
 advance-requires : tie.Need-advance-requires Inv-loop2 μ-loop2 Inv-loop μ-loop
-unfolding place count-at
+unfolding task-above count-at
 advance-requires c κs = round-ready (c .before .before .before .before .before .loop2 .inv .0) (omega arith) (omega arith) (omega arith) (omega arith) (omega arith)
 
 returns : tie.Need-returns Inv-loop2 μ-loop2 Inv-loop μ-loop
-unfolding place count-at
+unfolding task-above count-at
 returns c =
     never-enough _ _ _
     (c .before .before .before .before .before .before .before .before .before .loop .inv .1)
@@ -89,7 +89,7 @@ loop2-less : tie.Need-loop2-less Inv-loop2 μ-loop2 Inv-loop μ-loop
 loop2-less c = omega arith
 
 loop2-again : tie.Need-loop2-again Inv-loop2 μ-loop2 Inv-loop μ-loop
-unfolding place count-at
+unfolding task-above count-at
 loop2-again c =
     ⊎-elim
     (λ w. (
@@ -128,7 +128,7 @@ respond-spec =
     Inv-loop
     μ-loop
     wide-requires
-    tasks-in-requires
+    above-in-requires
     begin-all-requires
     wide-requires-2
     wide-requires-3

@@ -1,6 +1,6 @@
 -- How the code counts the jobs of a higher task from round to round: what the functions below `respond` promise.
 use mathlib.Core.Bool.{true, false}
-use mathlib.Core.List.{List, []}
+use mathlib.Core.List.{List}
 use mathlib.Core.Path.{_≡_}
 use Prim.Native.Nat.{ℕ, _+_, _*_, _/_, _%_, _≤_, _<_, _^_}
 use lib.Dec.{eqb}
@@ -8,6 +8,7 @@ use lib.ListN.{length, getD}
 use Rattle.theory.specs.Tasks.{frame-count, work}
 use Rattle.theory.specs.Analysis.{Higher, releases}
 use Rattle.sheet.specs.Constants.{most-tasks}
+use Rattle.sheet.specs.Tasks.{no-record}
 use Rattle.response.specs.Response.{higher-in}
 use Rattle.response.specs.declared.Higher.{Higher as HigherRecord}
 use Rattle.response.specs.declared.Counted.{Counted}
@@ -40,17 +41,17 @@ nothing-counted h =
       | false ↦ elim (eqb (frame-count (h .task)) 0) [ true ↦ idle | false ↦ record { until = 0; next = h .start % frame-count (h .task) } ]
     ]
 
--- what stands past the places of an array
+-- what stands past the end of an array of them: nothing reads it
 abbrev pub no-higher : HigherRecord
-no-higher = record { start = 0; task = record { period = 0; deadline = 0; lock = 0; «frame_count» = 0; frames = [] } }
+no-higher = record { start = 0; task = no-record }
 
--- the first n places hold their task's count, with nothing counted
+-- the first n counts are those of their tasks, with nothing counted
 pub record Begun (hs : List HigherRecord) (n : ℕ) (cs : List Counted) : Type 0 where
-  pub places : length cs ≡ most-tasks
+  pub room : length cs ≡ most-tasks
   pub each : (i : ℕ) → i < n → getD cs i (record { until = 0; next = 0 }) ≡ nothing-counted (higher-in (getD hs i no-higher))
 
 -- what is known before jobs are counted up to x
-pub record Ready (h : Higher) (c : Counted) (total x deadline : ℕ) : Type 0 where
+pub record Advancing (h : Higher) (c : Counted) (total x deadline : ℕ) : Type 0 where
   pub counts : Counts h (jobs h c) c
   pub not-all : c .until < x
   pub time : x ≤ deadline

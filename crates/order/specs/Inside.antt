@@ -1,0 +1,3 @@
+-- What the functions below the public ones promise.
+pub mod Keys
+pub mod Below

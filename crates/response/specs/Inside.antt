@@ -1,0 +1,2 @@
+-- What the functions below `respond` promise.
+pub mod Counting
