@@ -1,4 +1,4 @@
--- A task in range and well formed: 01's two sentences, read off the tests.
+-- A task in range and well formed, read off the tests.
 use mathlib.Core.Bool.{false, So, _&&_}
 use mathlib.Core.Logic.{_↔_, Iff·trans}
 use mathlib.Core.Path.{_≡_}
@@ -9,7 +9,7 @@ use lib.ListN.{length, getD}
 use Rattle.theory.specs.Tasks.{Task}
 use Rattle.sheet.specs.Constants.{greatest-time}
 use Rattle.sheet.specs.Admission.{is-time, in-range, well-formed}
-use Rattle.admission.specs.Frames.{all-between}
+use Rattle.admission.specs.Inside.Frames.{all-between}
 use Rattle.admission.proofs.Tests.{same-outcome, fails, is-and, is-leb, is-all}
 
 pub record Fits (t : Task) : Type 0 where

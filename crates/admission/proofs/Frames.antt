@@ -10,7 +10,7 @@ use lib.Dec.{leb}
 use lib.ListN.{length, getD, take}
 use Rattle.theory.specs.Tasks.{largest}
 use Rattle.sheet.specs.Admission.{all}
-use Rattle.admission.specs.Frames.{all-between}
+use Rattle.admission.specs.Inside.Frames.{all-between}
 use Rattle.admission.proofs.Remaining.{remaining, all-remain, one-remains, none-remain}
 
 largest-cons : (c : ℕ) (cs : List ℕ) → largest (c ∷ cs) ≡ max c (largest cs)

@@ -10,7 +10,7 @@ use Rattle.theory.specs.First.{first, every}
 use Rattle.theory.specs.Tasks.{Task, frame-count, frame, work, qualifies, start-frame, Monotonic}
 use Rattle.theory.proofs.Search.{every-at, every-is, some-found, none-found}
 use Rattle.theory.proofs.Work.{work-zero, work-suc, monotonic-test}
-use Rattle.admission.specs.Frames.{of-frames, from-at-least}
+use Rattle.admission.specs.Inside.Frames.{of-frames, from-at-least}
 use Rattle.admission.specs.Start.{start-found, start-of}
 use Rattle.admission.specs.declared.Start.the-variants.{At, Nowhere}
 use Rattle.admission.proofs.Rows.{every-passes, every-fails, every-ends, first-passes, first-fails, first-ends}

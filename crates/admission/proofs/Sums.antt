@@ -15,7 +15,7 @@ use Rattle.theory.specs.Tasks.{frame-count, frame, work}
 use Rattle.theory.proofs.Work.{work-zero, work-suc, frame-mod}
 use Rattle.sheet.specs.Tasks.{next-round}
 use Rattle.sheet.proofs.Rounds.{round-is}
-use Rattle.admission.specs.Frames.{of-frames, from-at-least}
+use Rattle.admission.specs.Inside.Frames.{of-frames, from-at-least}
 use Rattle.admission.proofs.Rows.{every-passes, every-fails, every-ends}
 
 module _ (frames : List ℕ) (count : ℕ) (there : count ≤ length frames) where

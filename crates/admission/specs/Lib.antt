@@ -1,4 +1,3 @@
--- What the start frame's search answers, and what the private functions say of a list of frame times.
+-- What the start frame's search answers.
 pub mod Start
-pub mod Frames
-pub mod Examples
+pub mod Inside

@@ -1,4 +1,4 @@
--- 01: "The start frame is the lowest-numbered that qualifies."
+-- The start frame of a task: the lowest-numbered frame that qualifies.
 use mathlib.Core.Option.{Option, none, some}
 use Prim.Native.Nat.{ℕ}
 use Rattle.theory.specs.First.{first}

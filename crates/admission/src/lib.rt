@@ -9,7 +9,7 @@ ghost use Rattle.sheet.specs.Constants.{most-frames};
 ghost use Rattle.sheet.specs.Tasks.{task-in, records-of};
 ghost use Rattle.sheet.specs.Admission.{decided, in-range, well-formed, lock-fits, task-checks, frame-count-checks, admission};
 ghost use Rattle.admission.specs.Start.{start-of};
-ghost use Rattle.admission.specs.Frames.{of-frames, from-at-least, all-between};
+ghost use Rattle.admission.specs.Inside.Frames.{of-frames, from-at-least, all-between};
 use sheet::Answer;
 use sheet::Refusal;
 use sheet::Sheet;

@@ -12,21 +12,21 @@ use Rattle.lists.specs.declared.ListRead.{ListRead}
 use Rattle.lists.specs.declared.ListRead.the-variants.{Set}
 use Rattle.lists.specs.declared.ListRead.the-variants.{TurnedAway as turned-away}
 
--- "A refusal returns its number and the task number for 7, 9, 10 and 11 (else 0)"
+-- a refusal: its number, and 32 times the task that it names
 abbrev pub refusal-code : Refusal → ℕ
 refusal-code r = number-of r + 32 * task-of-refusal r
 
--- "The writer returns the bytes written,"
+-- the bytes written
 abbrev pub written-code : Written → ℕ
 written-code (Bytes n) = 32 * n
 written-code (TurnedAway r) = refusal-code r
 
--- "the reader the policy and task count."
+-- the policy and the task count that were read
 abbrev pub read-code : ListRead → ℕ
 read-code (Set policy count) = 32 * (policy + 4 * count)
 read-code (turned-away r) = refusal-code r
 
--- a miss by 01's number for it
+-- a miss by the number that the C entry gives it
 abbrev pub outcome-code : Outcome → ℕ
 outcome-code Holds = 0
 outcome-code (Missed p b) = 32 * (100 + 17 * p + blocker-code b)

@@ -1,4 +1,4 @@
--- Demand 1: "An admitted sheet with any one bit changed is refused." It holds of any change within sixteen neighbouring bits, and the refusal is 2.
+-- Demand 1: an admitted sheet changed within sixteen neighbouring bits, so in any one bit, is refused, and the refusal is 2.
 use mathlib.Core.Bool.{false, not, _&&_}
 use mathlib.Core.List.{List}
 use mathlib.Core.Path.{_≡_, ap, _∙_}
@@ -43,7 +43,7 @@ length-inverted : (s : List ℕ) (i : ℕ) → length (with-bit-inverted i s) �
 unfolding with-bit-inverted
 length-inverted s i = length-bytes (length s) (inverted i (bits-of s))
 
--- "An admitted sheet with any one bit changed is refused."
+-- So is an admitted sheet with any one bit changed.
 pub one-bit-is-refused : (s : List ℕ) (i : ℕ) → Bytes s → reading s .answer ≡ Admitted → i < 8 * length s
     → reading (with-bit-inverted i s) ≡ record { answer = Refused CheckWord; set = blank-set }
 one-bit-is-refused s i hs a h =

@@ -1,4 +1,4 @@
--- 01, "What we sign for": "for the same input a second conforming answer is proved equal to the first".
+-- SCOPE.md, "What we sign for": two conforming answers to the same input are equal.
 use mathlib.Core.List.{List}
 use mathlib.Core.Path.{_≡_, sym, _∙_}
 use Prim.Native.Nat.{ℕ}

@@ -1,4 +1,4 @@
--- 01, below the worked sets: "The list of no task gives 6. A task with D = T + 1 gives 9; with Q one above its largest frame (itself below 1,048,575), 10." Of every such list, whichever task it is.
+-- Lists that are turned away whichever task it is: of no task, with a deadline one above the period, with a lock one above the largest frame.
 use mathlib.Core.Bool.{Bool, true, false, not, _&&_, and-eq-true-iff, and-false}
 use mathlib.Core.List.{List, [], _∷_, _++_}
 use mathlib.Core.Path.{_≡_, refl, sym, ap, _∙_}
@@ -21,7 +21,7 @@ use Rattle.sheet.proofs.Counts.{policy-passes}
 use Rattle.sheet.proofs.InFields.{Each, FramesCounted, Ranged, range-of}
 use Rattle.sheet.proofs.Carried.{answer-of-tasks}
 
--- "The list of no task gives 6."
+-- The list of no task gives 6.
 pub no-task-is-6 : (policy : ℕ) → known-policy policy ≡ true → admission (set-with policy []) ≡ Refused TaskCount
 unfolding admission list-checks policy-check task-count-check set-with
 no-task-is-6 policy known = passed-over _ _ _ (policy-passes policy known) ∙ applies _ TaskCount _ refl
@@ -57,7 +57,7 @@ late t e =
     ap (λ (b : Bool). all (λ c. leb c (t .deadline)) (t .frames) && b) (lt-leb (t .deadline) (t .period) (omega arith))
     ∙ and-false (all (λ c. leb c (t .deadline)) (t .frames))
 
--- "A task with D = T + 1 gives 9;"
+-- A task whose deadline is one above its period gives 9.
 pub late-deadline-is-9 : (policy : ℕ) (us : List Task) (t : Task) (vs : List Task) → Reaches policy us t vs → t .deadline ≡ t .period + 1
     → admission (set-with policy (us ++ t ∷ vs)) ≡ Refused (IllFormed (length us))
 unfolding task-checks
@@ -76,7 +76,7 @@ lock-in-range t q e h =
     range-of (with-lock t q) .1
     (record { period-time = r .period-time; deadline-time = r .deadline-time; lock-time = le-leb q greatest-time h; frame-times = r .frame-times })
 
--- "with Q one above its largest frame (itself below 1,048,575), 10.", of a task that is in range and well formed
+-- A task in range and well formed whose lock is one above its largest frame, and still in range, gives 10.
 pub lock-above-largest-is-10 : (policy : ℕ) (us : List Task) (t : Task) (vs : List Task) → Reaches policy us (with-lock t (largest (t .frames) + 1)) vs
     → in-range t ≡ true → well-formed t ≡ true → largest (t .frames) < greatest-time
     → admission (set-with policy (us ++ with-lock t (largest (t .frames) + 1) ∷ vs)) ≡ Refused (Lock (length us))

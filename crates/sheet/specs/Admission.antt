@@ -1,4 +1,4 @@
--- 01, "What is turned away, by number", for a task and for a list. A refusal is the first check of a row that applies.
+-- What is turned away of a task and of a list (SCOPE.md, "What is turned away"): rows of checks, of which the first that applies decides.
 use mathlib.Core.Bool.{Bool, true, false, not, _&&_, _||_}
 use mathlib.Core.List.{List, [], _∷_, _++_, map}
 use mathlib.Core.Option.{Option, none, some}
@@ -30,22 +30,22 @@ unfoldable pub all : (ℕ → Bool) → List ℕ → Bool
 all test [] = true
 all test (n ∷ ns) = test n && all test ns
 
--- "T, D and each frame time lie in 1 to 1,048,575; Q in 0 to 1,048,575."
+-- periods, deadlines and frame times lie in 1 to 1,048,575, locks in 0 to 1,048,575
 unfoldable pub is-time : ℕ → Bool
 is-time n = leb 1 n && leb n greatest-time
 
 unfoldable pub in-range : Task → Bool
 in-range t = is-time (t .period) && is-time (t .deadline) && leb (t .lock) greatest-time && all is-time (t .frames)
 
--- "Well formed: every frame time ≤ D, and D ≤ T."
+-- no frame time exceeds the deadline, and the deadline not the period
 unfoldable pub well-formed : Task → Bool
 well-formed t = all (λ c. leb c (t .deadline)) (t .frames) && leb (t .deadline) (t .period)
 
--- "Lock: Q is at most the largest frame time."
+-- the lock does not exceed the largest frame time
 unfoldable pub lock-fits : Task → Bool
 lock-fits t = leb (t .lock) (largest (t .frames))
 
--- "Accumulatively monotonic: there is a start frame"
+-- some frame qualifies as start
 unfoldable pub monotonic : Task → Bool
 monotonic t = found (first 0 (frame-count t) (qualifies t))
 
@@ -82,12 +82,12 @@ unfoldable pub task-checks : ℕ → List Task → List (Check Refusal)
 task-checks i [] = []
 task-checks i (t ∷ ts) = form-checks i t ++ monotonic-check i t ∷ task-checks (suc i) ts
 
--- "7 task by task"
+-- 7 task by task
 unfoldable pub frame-count-checks : ℕ → List Record → List (Check Refusal)
 frame-count-checks i [] = []
 frame-count-checks i (r ∷ rs) = frame-count-check i (r .«frame_count») ∷ frame-count-checks (suc i) rs
 
--- "Order for a list: 4, 6, 7 task by task, then task by task 9, 10, 11,"
+-- the order for a list: 4, 6, 7 task by task, then task by task 9, 10, 11
 unfoldable pub list-checks : ℕ → ℕ → List Record → List (Check Refusal)
 list-checks policy n records =
     policy-check policy

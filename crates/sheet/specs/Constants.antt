@@ -1,8 +1,8 @@
--- 01: "The widths, limits and policy numbers are named constants of the sheet, stated once."
+-- The widths, limits and policy numbers of the sheet, each by name and once.
 use mathlib.Core.List.{List, [], _∷_}
 use Prim.Native.Nat.{ℕ}
 
--- "Header, 16 bits: version 4 (value 1), policy 2, task count 5, spare 5 (zero)."
+-- the fields of the header, in bits, and the version
 abbrev pub version-width : ℕ
 version-width = 4
 
@@ -18,25 +18,25 @@ spare-width = 5
 abbrev pub the-version : ℕ
 the-version = 1
 
--- "Each task: T 20, D 20, Q 20, frame count 4, then 20 for each frame."
+-- the fields of a task, in bits: every time has the same width
 abbrev pub time-width : ℕ
 time-width = 20
 
 abbrev pub frame-count-width : ℕ
 frame-count-width = 4
 
--- "1 to 16 tasks", "1 to 8 frame times"
+-- how many tasks a set and how many frames a task may have
 abbrev pub most-tasks : ℕ
 most-tasks = 16
 
 abbrev pub most-frames : ℕ
 most-frames = 8
 
--- "T, D and each frame time lie in 1 to 1,048,575; Q in 0 to 1,048,575."
+-- the greatest period, deadline, lock and frame time
 abbrev pub greatest-time : ℕ
 greatest-time = 1048575
 
--- "Policies: 0 listed (task 0 is highest), 1 rate monotonic (shorter T higher), 2 deadline monotonic (shorter D higher)."
+-- the policies
 abbrev pub listed : ℕ
 listed = 0
 
@@ -46,7 +46,7 @@ rate-monotonic = 1
 abbrev pub deadline-monotonic : ℕ
 deadline-monotonic = 2
 
--- "Least size 15 bytes, greatest 452."
+-- the least and the greatest size of a sheet in bytes
 abbrev pub least-size : ℕ
 least-size = 15
 

@@ -12,14 +12,13 @@ use Rattle.theory.specs.Tasks.{Task, frame-count, frame, work, largest, qualifi
 use Rattle.sheet.specs.Constants.{most-tasks, most-frames, greatest-time}
 use Rattle.sheet.specs.Fields.{packed, unpacked, total}
 use Rattle.sheet.specs.Tasks.{record-of, task-in, set-with, records-of, blank-set}
-use Rattle.sheet.specs.Refusals.{number-of}
 use Rattle.sheet.specs.Layout.{header-in, records-in, frame-count-in, record-width, task-at-start, tasks-in}
 use Rattle.sheet.specs.Admission.{decided, known-policy, all, is-time, in-range, well-formed, lock-fits, monotonic, policy-check, task-count-check, frame-count-check, task-checks, frame-count-checks, list-checks, admission}
 use Rattle.sheet.specs.Reading.{some-set, layout-checks, sheet-checks, policy-of, tasks-of, reading-by, reading}
 use Rattle.sheet.specs.Writing.{header-bits, task-bits, tasks-bits, whole-bytes, sheet-of}
 use Rattle.sheet.specs.declared.Answer.{Answer}
 use Rattle.sheet.specs.declared.Answer.the-variants.{Admitted, Refused}
-use Rattle.sheet.specs.declared.Refusal.the-variants.{TaskCount, FrameCount, IllFormed, Lock, NotMonotonic}
+use Rattle.sheet.specs.declared.Refusal.the-variants.{FrameCount, NotMonotonic}
 
 -- a task with D = T and Q = 0
 abbrev pub plain : ℕ → List ℕ → Task
@@ -44,59 +43,20 @@ sheets = tt
 
 -- ---- worked by hand
 
--- "M. Policy 0, T 10, frame 3: the bytes before the check word are 10 20 00 00 A0 00 0A 00 00 01 00 00 30."
-pub bytes-of-m :
-    body (sheet-of 0 (plain 10 (3 ∷ []) ∷ []))
-    ≡ 0x10 ∷ 0x20 ∷ 0x00 ∷ 0x00 ∷ 0xA0 ∷ 0x00 ∷ 0x0A ∷ 0x00 ∷ 0x00 ∷ 0x01 ∷ 0x00 ∷ 0x00 ∷ 0x30 ∷ []
-unfolding body sheet-of seal whole-bytes header-bits tasks-bits task-bits packed bytes-of digits value
-bytes-of-m = refl
+-- a task of two frames, read as it was written
+abbrev small : List Task
+small = record { period = 6; deadline = 5; lock = 1; frames = 2 ∷ 1 ∷ [] } ∷ []
 
--- M is read as it was written
-pub reading-of-m : reading (sheet-of 0 (plain 10 (3 ∷ []) ∷ [])) ≡ record { answer = Admitted; set = set-with 0 (plain 10 (3 ∷ []) ∷ []) }
+pub reading-of-small : reading (sheet-of 1 small) ≡ record { answer = Admitted; set = set-with 1 small }
 unfolding sheets
-reading-of-m = refl
+reading-of-small = refl
 
--- "I. Frames 1,2,3 T 10: refusal 11.", of task 0, as a list and as a sheet
-abbrev i : List Task
-i = plain 10 (1 ∷ 2 ∷ 3 ∷ []) ∷ []
-
-pub answer-to-i : answer-to i ≡ Refused (NotMonotonic 0)
-unfolding lists
-answer-to-i = refl
-
-pub reading-of-i : reading (sheet-of 0 i) ≡ record { answer = Refused (NotMonotonic 0); set = blank-set }
+-- frames that grow have no start: 11 of a sheet, too
+pub reading-of-growing : reading (sheet-of 0 (plain 6 (1 ∷ 2 ∷ []) ∷ plain 9 (1 ∷ 2 ∷ 3 ∷ []) ∷ [])) ≡ record { answer = Refused (NotMonotonic 1); set = blank-set }
 unfolding sheets
-reading-of-i = refl
+reading-of-growing = refl
 
-pub number-of-i : number-of (NotMonotonic 0) ≡ 11
-number-of-i = refl
-
--- "J. Frames 3,2,1,5 T 10: start frame 3"
-pub start-of-j : start-frame (plain 10 (3 ∷ 2 ∷ 1 ∷ 5 ∷ [])) ≡ 3
-unfolding tasks
-start-of-j = refl
-
--- "K. Policy 0: frames 3,1,3,2 T 4; frame 2 T 20: start frame 2"
-pub start-of-k : start-frame (plain 4 (3 ∷ 1 ∷ 3 ∷ 2 ∷ [])) ≡ 2
-unfolding tasks
-start-of-k = refl
-
--- "The list of no task gives 6."
-pub answer-to-none : answer-to [] ≡ Refused TaskCount
-unfolding lists
-answer-to-none = refl
-
--- "A task with D = T + 1 gives 9;"
-pub answer-to-late : answer-to (record { period = 10; deadline = 11; lock = 0; frames = 3 ∷ [] } ∷ []) ≡ Refused (IllFormed 0)
-unfolding lists
-answer-to-late = refl
-
--- "with Q one above its largest frame (itself below 1,048,575), 10."
-pub answer-to-locked : answer-to (record { period = 10; deadline = 10; lock = 4; frames = 3 ∷ [] } ∷ []) ≡ Refused (Lock 0)
-unfolding lists
-answer-to-locked = refl
-
--- "7 task by task, then task by task 9": a first task with D above T and a second with no frame
+-- 7 of every task comes before 9 of the first: a first task with D above T and a second with no frame
 pub seven-before-nine :
     answer-to (record { period = 10; deadline = 11; lock = 0; frames = 3 ∷ [] } ∷ plain 10 [] ∷ []) ≡ Refused (FrameCount 1)
 unfolding lists

@@ -1,4 +1,4 @@
--- 01's sheet in 01's order: its constants, its fields, the tasks in it, what is turned away, what is read and what is written.
+-- The sheet: its constants, its fields, the tasks in it, what is turned away, what is read and what is written.
 pub mod Constants
 pub mod Pairs
 pub mod Fields

@@ -24,8 +24,8 @@ unfoldable pub some-set : List Bool → Bool
 some-set [] = false
 some-set (b ∷ bs) = elim b [ true ↦ true | false ↦ some-set bs ]
 
--- "Then task by task: 8 if the 64 fixed bits are not all there, 7, 8 if its frames are not. Then 8 for bits left, 5 for fill bits."
--- n records are still to come, the first of them of task i.
+-- Of n records that are still to come, the first of them of task i: 8 if its fixed part is not all there, 7, 8 if its frames are not; behind
+-- the last record 8 for eight or more bits left, 5 for a fill bit.
 unfoldable pub layout-checks : ℕ → ℕ → List Bool → List (Check Refusal)
 layout-checks i zero bits = (leb 8 (length bits) ⇒ Records) ∷ (some-set bits ⇒ BitSet) ∷ []
 layout-checks i (suc n) bits =
@@ -34,7 +34,7 @@ layout-checks i (suc n) bits =
     ∷ (ltb (length bits) (record-width bits) ⇒ Records)
     ∷ layout-checks (suc i) n (drop (record-width bits) bits)
 
--- "Order for a sheet: 1, 2, 3, 4, 5 for header bits, 6. Then task by task .. Then task by task 9, 10, 11."
+-- the order for a sheet: 1, 2, 3, 4, 5 for spare bits, 6, then its layout task by task, then task by task 9, 10, 11
 unfoldable pub sheet-checks : List ℕ → List (Check Refusal)
 sheet-checks s =
     let bits = bits-of (body s) in

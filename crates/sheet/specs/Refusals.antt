@@ -1,4 +1,4 @@
--- 01, "What is turned away, by number".
+-- The refusals by number (SCOPE.md, "What is turned away").
 use Prim.Native.Nat.{ℕ}
 use Rattle.sheet.specs.declared.Refusal.{Refusal}
 use Rattle.sheet.specs.declared.Refusal.the-variants.{Length, CheckWord, Version, Policy, BitSet, TaskCount, FrameCount, Records, IllFormed, Lock, NotMonotonic, Room}
@@ -17,7 +17,7 @@ number-of (Lock i) = 10
 number-of (NotMonotonic i) = 11
 number-of Room = 12
 
--- "A refusal returns its number and the task number for 7, 9, 10 and 11 (else 0)"
+-- the task that a refusal names: for 7, 9, 10 and 11; 0 for the others
 abbrev pub task-of-refusal : Refusal → ℕ
 task-of-refusal Length = 0
 task-of-refusal CheckWord = 0

@@ -1,4 +1,4 @@
--- Tasks and the records that hold them: 01, "The workbench holds the set as a lent list of task records".
+-- Tasks and the records that hold them (SCOPE.md, "A task and a set").
 use mathlib.Core.Bool.{cond}
 use mathlib.Core.List.{List, [], _∷_, _++_, map}
 use Prim.Native.Nat.{ℕ, suc, _-_}
@@ -9,11 +9,11 @@ use Rattle.sheet.specs.Constants.{most-tasks, most-frames}
 use Rattle.sheet.specs.declared.Task.{Task as Record}
 use Rattle.sheet.specs.declared.TaskSet.{TaskSet}
 
--- "each has room for eight frame times and a frame count. Places past the count are not read,"
+-- the task that a record holds: frame places past its count are not read
 unfoldable pub task-in : Record → Task
 task-in r = record { period = r .period; deadline = r .deadline; lock = r .lock; frames = take (r .«frame_count») (r .frames) }
 
--- "and are 0 when we fill a record"
+-- the record of a task: frame places past its count are 0
 unfoldable pub record-of : Task → Record
 record-of t =
     record {

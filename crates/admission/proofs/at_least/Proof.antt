@@ -4,7 +4,7 @@ use Prim.Native.Nat.{_≤_, _<_, _-_}
 use native.Mathlib.Omega.{arith}
 use denote.Ref.{now}
 use lib.ListN.{length, take}
-use Rattle.admission.specs.Frames.{of-frames, from-at-least}
+use Rattle.admission.specs.Inside.Frames.{of-frames, from-at-least}
 use Rattle.admission.proofs.Sums.{Summed, summed-none, sum-more, summed-more, left-to, left-all, left-passes, left-fails, left-ends}
 use borrow.Author.Needs.{needs}
 use Rattle.admission.proofs.at_least.Statement.{statement}

@@ -4,7 +4,7 @@ use Prim.Native.Nat.{_≤_, _-_}
 use native.Mathlib.Omega.{arith}
 use denote.Ref.{now}
 use lib.ListN.{length, take}
-use Rattle.admission.specs.Frames.{all-between}
+use Rattle.admission.specs.Inside.Frames.{all-between}
 use Rattle.admission.proofs.Remaining.{remaining}
 use Rattle.admission.proofs.Frames.{between-start, between-passes, between-below, between-above, between-end}
 use borrow.Author.Needs.{needs}

@@ -6,7 +6,7 @@ use borrow.Author.Tests.{not-true, not-false}
 use denote.Ref.{now}
 use lib.ListN.{length, take}
 use Rattle.theory.specs.Tasks.{qualifies}
-use Rattle.admission.specs.Frames.{of-frames}
+use Rattle.admission.specs.Inside.Frames.{of-frames}
 use Rattle.admission.proofs.Sums.{count-is}
 use Rattle.admission.proofs.Starts.{others-left, others-all, others-pass, others-fail, others-end}
 use borrow.Author.Needs.{needs}

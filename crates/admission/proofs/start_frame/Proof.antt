@@ -7,7 +7,7 @@ use lib.ListN.{length, take}
 use Rattle.theory.specs.First.{first}
 use Rattle.theory.specs.Tasks.{frame-count, qualifies}
 use Rattle.sheet.specs.Tasks.{task-in}
-use Rattle.admission.specs.Frames.{of-frames}
+use Rattle.admission.specs.Inside.Frames.{of-frames}
 use Rattle.admission.specs.Start.{start-of}
 use Rattle.admission.proofs.Sums.{count-is}
 use Rattle.sheet.proofs.Records.{frames-used}

@@ -2,7 +2,7 @@
 use mathlib.Core.Path.{sym, ap, _∙_}
 use native.Mathlib.Omega.{arith}
 use Rattle.sheet.specs.Tasks.{task-in}
-use Rattle.admission.specs.Frames.{all-between}
+use Rattle.admission.specs.Inside.Frames.{all-between}
 use Rattle.sheet.proofs.Records.{frames-used}
 use Rattle.admission.proofs.Fits.{turned-away, frames-decide}
 use borrow.Author.Needs.{needs}
