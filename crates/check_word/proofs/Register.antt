@@ -11,7 +11,7 @@ use native.Mathlib.Numerals.{add-one}
 use Rattle.bits.specs.Packed.{value, digits, bits-of}
 use Rattle.bits.proofs.Laws.{length-digits, value-digits, digits-value, value-lt, eight-more, length-bits}
 use Rattle.check_word.specs.Division.{added, polynomial, divided, started, check-word}
-use Rattle.check_word.specs.Register.{shifted, fed, register}
+use Rattle.check_word.specs.Inside.Register.{shifted, fed, register}
 use Rattle.check_word.proofs.Steps.{step, xor-false, xor-comm, length-added, added-comm, added-assoc, length-polynomial, length-step, length-divided}
 use Rattle.check_word.proofs.Residue.{added-zeros, remainder-is}
 

@@ -14,7 +14,7 @@ use lib.Seq.{take-at, drop-at, take-all}
 use Rattle.bits.specs.Packed.{value, odd, digits, bits-of, bytes-of}
 use Rattle.bits.proofs.Laws.{length-digits, value-digits, digits-low, digits-split}
 use Rattle.check_word.specs.Division.{added, polynomial, divided}
-use Rattle.check_word.specs.Register.{shifted, fed}
+use Rattle.check_word.specs.Inside.Register.{shifted, fed}
 use Rattle.check_word.proofs.Steps.{step}
 use Rattle.check_word.proofs.Register.{added-zeros-behind}
 

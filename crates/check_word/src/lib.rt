@@ -5,7 +5,7 @@ ghost use lib.Dec.{leb};
 ghost use lib.ListN.{length};
 ghost use Rattle.bits.specs.Packed.{value, bits-of};
 ghost use Rattle.check_word.specs.Division.{check-word, sealed, with-seal};
-ghost use Rattle.check_word.specs.Register.{shifted, fed};
+ghost use Rattle.check_word.specs.Inside.Register.{shifted, fed};
 
 // One step. The bit that goes out at the top tells whether the polynomial, x^12 + x^5 + 1 behind its leading one, is subtracted.
 fn step(c: u16) -> u16

@@ -4,7 +4,7 @@ use Prim.Native.Nat.{ℕ, _+_, _-_, _≤_}
 use borrow.Author.Needs.{needs}
 use lib.ListN.{length, drop}
 use Rattle.check_word.specs.Division.{check-word}
-use Rattle.check_word.specs.Register.{register}
+use Rattle.check_word.specs.Inside.Register.{register}
 use Rattle.check_word.proofs.Register.{register-form, register-turn, register-end}
 use Rattle.check_word.proofs.check_word.Statement.{statement}
 use Rattle.check_word.proofs.check_word.Tie as tie

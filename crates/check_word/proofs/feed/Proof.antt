@@ -2,7 +2,7 @@
 use mathlib.Core.Path.{_≡_, refl, _∙_}
 use Prim.Native.Nat.{_-_, _≤_, _<_, _^_}
 use borrow.Author.Needs.{needs}
-use Rattle.check_word.specs.Register.{shifted}
+use Rattle.check_word.specs.Inside.Register.{shifted}
 use Rattle.check_word.proofs.Register.{shifted-turn, shifted-end}
 use Rattle.check_word.proofs.Words.{topped-lt, fed-is}
 use Rattle.check_word.proofs.feed.Statement.{statement}

@@ -1,0 +1,2 @@
+-- The words of the private contracts.
+pub mod Register
