@@ -15,9 +15,9 @@ use Rattle.sheet.specs.Writing.{header-bits, task-bits, tasks-bits, whole-bytes
 use Rattle.order.specs.Order.{key, is-higher, placed, order-from, priority-order, ordered-set}
 use Rattle.analysis.specs.Times.{number-at, place-of, blocker-number, verdict-number, outcome-of, times-from, places-by, places-of, places-from, times-of}
 use Rattle.analysis.specs.Answers.{refused-analysis, analysis-by, set-analysis}
-use Rattle.cases.specs.Table.{in-eights, said, Agrees, AgreesOn, Each, table}
+use Rattle.cases.specs.Table.{in-eights, said, given, Agrees, table}
 
--- Each case of the table gets its answers.
-pub cases-a-to-m : Each table
-unfolding table Each AgreesOn Agrees said in-eights set-analysis analysis-by refused-analysis outcome-of times-of number-at place-of blocker-number verdict-number times-from places-by places-of places-from key is-higher placed order-from priority-order ordered-set admission decided first-refusal known-policy all is-time in-range well-formed lock-fits monotonic policy-check task-count-check frame-count-check task-checks frame-count-checks list-checks task-in record-of records-of set-with blank-record lower largest-lock blocking blocker higher releases higher-work demand response demand-of response-of passes verdict task-at frame-count frame work largest largest-frame qualifies start-frame deadline-of first every found body sheet-of seal whole-bytes header-bits tasks-bits task-bits packed bytes-of digits value
-cases-a-to-m = ((refl, tt), ((refl, tt), ((refl, tt), ((refl, tt), ((refl, tt), ((refl, tt), ((refl, tt), ((refl, tt), ((refl, tt), ((refl, (refl, tt)), ((refl, (refl, tt)), ((refl, tt), ((refl, tt), ((refl, tt), ((refl, tt), ((refl, tt), ((refl, tt), tt)))))))))))))))))
+-- The definitions give every case of the table its answers.
+pub cases-a-to-m : Agrees table
+unfolding table Agrees given said in-eights set-analysis analysis-by refused-analysis outcome-of times-of number-at place-of blocker-number verdict-number times-from places-by places-of places-from key is-higher placed order-from priority-order ordered-set admission decided first-refusal known-policy all is-time in-range well-formed lock-fits monotonic policy-check task-count-check frame-count-check task-checks frame-count-checks list-checks task-in record-of records-of set-with blank-record lower largest-lock blocking blocker higher releases higher-work demand response demand-of response-of passes verdict task-at frame-count frame work largest largest-frame qualifies start-frame deadline-of first every found body sheet-of seal whole-bytes header-bits tasks-bits task-bits packed bytes-of digits value
+cases-a-to-m = refl

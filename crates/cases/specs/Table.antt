@@ -1,5 +1,5 @@
 -- SCOPE.md, "Worked sets": cases A to M as one table, sets in, answers out; and the three refusals that "What is turned away" gives by example.
-use mathlib.Core.List.{List, [], _∷_, _++_}
+use mathlib.Core.List.{List, [], _∷_, _++_, map}
 use mathlib.Core.Path.{_≡_}
 use Prim.Native.Nat.{ℕ, _-_, _*_}
 use lib.ListN.{length, take, replicate}
@@ -8,18 +8,18 @@ use Rattle.theory.specs.Tasks.{Task, task-at, start-frame}
 use Rattle.sheet.specs.Constants.{most-frames}
 use Rattle.sheet.specs.Tasks.{set-with}
 use Rattle.sheet.specs.Writing.{sheet-of}
-use Rattle.sheet.specs.declared.TaskSet.{TaskSet}
 use Rattle.sheet.specs.declared.Refusal.the-variants.{TaskCount, IllFormed, Lock, NotMonotonic}
 use Rattle.order.specs.Order.{priority-order}
 use Rattle.order.specs.declared.Blocker.the-variants.{At, Nobody}
 use Rattle.analysis.specs.Answers.{set-analysis}
+use Rattle.analysis.specs.declared.Analysis.{Analysis}
 use Rattle.analysis.specs.declared.Outcome.{Outcome}
 use Rattle.analysis.specs.declared.Outcome.the-variants.{Holds, Missed, Refused}
 
 -- what a case says of its set
 pub data Answer : Type 0 where
-  -- the outcome, and the times of each task's frames, none for a task that does not pass
-  times : Outcome → List (List ℕ) → Answer
+  -- the outcome, and eight places for the times of each task's frames
+  analysed : Outcome → List ℕ → Answer
   -- the start frame of task 0
   start : ℕ → Answer
   -- the order of priorities
@@ -52,26 +52,24 @@ unfoldable pub in-eights : List (List ℕ) → List ℕ
 in-eights [] = []
 in-eights (ts ∷ rows) = ts ++ replicate (most-frames - length ts) 0 ++ in-eights rows
 
--- what the analysis of a set says: the outcome, and eight places for each of its tasks
-unfoldable pub said : TaskSet → Outcome × List ℕ
-said s = let a = set-analysis s in (a .outcome, take (most-frames * a .«task_count») (a .times))
+-- an outcome with each task's times; none for a task that does not pass
+abbrev times : Outcome → List (List ℕ) → Answer
+times outcome rows = analysed outcome (in-eights rows)
 
--- the definitions give a case this answer
-unfoldable pub Agrees : Case → Answer → Type 0
-Agrees c (times outcome rows) = said (set-with (c .policy) (c .tasks)) ≡ (outcome, in-eights rows)
-Agrees c (start frame) = start-frame (task-at (c .tasks) 0) ≡ frame
-Agrees c (order numbers) = priority-order (c .policy) (c .tasks) ≡ numbers
-Agrees c (bytes front) = body (sheet-of (c .policy) (c .tasks)) ≡ front
+-- what an analysis says of its set
+unfoldable pub said : Analysis → Answer
+said a = analysed (a .outcome) (take (most-frames * a .«task_count») (a .times))
 
--- they give it all of these
-unfoldable pub AgreesOn : Case → List Answer → Type 0
-AgreesOn c [] = Unit {0}
-AgreesOn c (a ∷ others) = Agrees c a × AgreesOn c others
+-- what the definitions give in the place of an answer
+unfoldable pub given : Case → Answer → Answer
+given c (analysed outcome places) = said (set-analysis (set-with (c .policy) (c .tasks)))
+given c (start frame) = start (start-frame (task-at (c .tasks) 0))
+given c (order numbers) = order (priority-order (c .policy) (c .tasks))
+given c (bytes front) = bytes (body (sheet-of (c .policy) (c .tasks)))
 
--- every case of a table gets its answers
-unfoldable pub Each : List Case → Type 0
-Each [] = Unit {0}
-Each (c ∷ cs) = AgreesOn c (c .answers) × Each cs
+-- the definitions give every case its answers
+unfoldable pub Agrees : List Case → Type 0
+Agrees cases = map (λ c. map (given c) (c .answers)) cases ≡ map (λ c. c .answers) cases
 
 unfoldable pub table : List Case
 table =
