@@ -5,7 +5,7 @@ use mathlib.Core.Option.{Option·getD}
 use Rattle.bits.specs.Packed.{value, digits, bytes-of}
 use Rattle.check_word.specs.Division.{seal, body}
 use Rattle.theory.specs.First.{first, every, found}
-use Rattle.theory.specs.Tasks.{task-at, frame-count, frame, work, largest, largest-frame, qualifies, start-frame, deadline-of}
+use Rattle.theory.specs.Tasks.{task-at, frame-count, frame, work, largest, largest-frame, qualifies, start-frame, deadline-of, shortest-deadline}
 use Rattle.theory.specs.Analysis.{lower, largest-lock, blocking, blocker, higher, releases, higher-work, demand, response, demand-of, response-of, passes, verdict}
 use Rattle.sheet.specs.Fields.{packed, total}
 use Rattle.sheet.specs.Tasks.{task-in, record-of, records-of, set-with, blank-record}
@@ -19,5 +19,5 @@ use Rattle.cases.specs.Table.{in-eights, said, given, Agrees, table}
 
 -- The definitions give every case of the table its answers.
 pub cases-a-to-m : Agrees table
-unfolding table Agrees given said in-eights set-analysis analysis-by refused-analysis outcome-of times-of number-at place-of blocker-number verdict-number times-from places-by places-of places-from key is-higher placed order-from priority-order ordered-set admission decided first-refusal known-policy all is-time in-range well-formed lock-fits monotonic policy-check task-count-check frame-count-check task-checks frame-count-checks list-checks task-in record-of records-of set-with blank-record lower largest-lock blocking blocker higher releases higher-work demand response demand-of response-of passes verdict task-at frame-count frame work largest largest-frame qualifies start-frame deadline-of first every found body sheet-of seal whole-bytes header-bits tasks-bits task-bits packed bytes-of digits value
+unfolding table Agrees given said in-eights set-analysis analysis-by refused-analysis outcome-of times-of number-at place-of blocker-number verdict-number times-from places-by places-of places-from key is-higher placed order-from priority-order ordered-set admission decided first-refusal known-policy all is-time in-range well-formed lock-fits monotonic policy-check task-count-check frame-count-check task-checks frame-count-checks list-checks task-in record-of records-of set-with blank-record lower largest-lock blocking blocker higher releases higher-work demand response demand-of response-of passes verdict task-at frame-count frame work largest largest-frame qualifies start-frame deadline-of shortest-deadline first every found body sheet-of seal whole-bytes header-bits tasks-bits task-bits packed bytes-of digits value
 cases-a-to-m = refl

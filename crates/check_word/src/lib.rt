@@ -4,8 +4,11 @@ ghost use mathlib.Core.List.{[], _∷_};
 ghost use lib.Dec.{leb};
 ghost use lib.ListN.{length};
 ghost use Rattle.bits.specs.Packed.{value, bits-of};
-ghost use Rattle.check_word.specs.Division.{check-word, sealed, with-seal};
+ghost use Rattle.check_word.specs.Division.{word-size, check-word, sealed, with-seal};
 ghost use Rattle.check_word.specs.Inside.Register.{shifted, fed};
+
+// The check word's size in bytes.
+pub const SIZE: usize = 2;
 
 // One step. The bit that goes out at the top tells whether the polynomial, x^12 + x^5 + 1 behind its leading one, is subtracted.
 fn step(c: u16) -> u16
@@ -56,8 +59,8 @@ pub fn sealed(bytes: &[u8]) -> bool
     ensures { λ r. ⌜ r ≡ sealed (now (bytes .entry)) ⌝ }
 {
     let n = bytes.len();
-    if 2 <= n {
-        let high = n - 2;
+    if SIZE <= n {
+        let high = n - SIZE;
         let low = n - 1;
         word(bytes[high], bytes[low]) == check_word(&bytes[..high])
     } else {
@@ -67,13 +70,13 @@ pub fn sealed(bytes: &[u8]) -> bool
 
 // Puts the check word of all but the last two bytes into these, the high byte first; says whether there are two.
 pub fn seal(bytes: &mut [u8]) -> bool
-    ensures { λ r. ⌜ (r ≡ leb 2 (length (now (bytes .entry)))) × (now (bytes .exit) ≡ with-seal (now (bytes .entry))) ⌝ }
+    ensures { λ r. ⌜ (r ≡ leb word-size (length (now (bytes .entry)))) × (now (bytes .exit) ≡ with-seal (now (bytes .entry))) ⌝ }
 {
     let n = bytes.len();
-    if n < 2 {
+    if n < SIZE {
         return false;
     }
-    let high = n - 2;
+    let high = n - SIZE;
     let low = n - 1;
     let c = check_word(&bytes[..high]);
     bytes[high] = (c >> 8) as u8;

@@ -3,7 +3,7 @@ ghost use mathlib.Core.Path.{_≡_};
 ghost use lib.Dec.{leb};
 ghost use lib.ListN.{length};
 ghost use Rattle.bits.specs.Faces.{taken, fits, stored};
-ghost use Rattle.check_word.specs.Division.{check-word, sealed, with-seal};
+ghost use Rattle.check_word.specs.Division.{word-size, check-word, sealed, with-seal};
 ghost use Rattle.outside.specs.Numbers.{number-taken};
 use bits::Taken;
 
@@ -46,7 +46,7 @@ pub extern "C" fn burrbeech_sealed(bytes: &[u8]) -> bool
 
 #[no_mangle]
 pub extern "C" fn burrbeech_seal(bytes: &mut [u8]) -> bool
-    ensures { λ r. ⌜ (r ≡ leb 2 (length (now (bytes .entry)))) × (now (bytes .exit) ≡ with-seal (now (bytes .entry))) ⌝ }
+    ensures { λ r. ⌜ (r ≡ leb word-size (length (now (bytes .entry)))) × (now (bytes .exit) ≡ with-seal (now (bytes .entry))) ⌝ }
 {
     check_word::seal(bytes)
 }
