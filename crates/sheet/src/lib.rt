@@ -16,14 +16,14 @@ pub struct Task {
     pub deadline: u32,
     pub lock: u32,
     pub frame_count: u32,
-    pub frames: [u32; 8],
+    pub frames: [u32; Sheet::FRAME_ROOM],
 }
 
 // A set by value, what a sheet carries: the policy and, of sixteen records, the first `task_count`.
 pub struct TaskSet {
     pub policy: u32,
     pub task_count: u32,
-    pub tasks: [Task; 16],
+    pub tasks: [Task; Sheet::TASK_ROOM],
 }
 
 // The widths of the sheet's fields, in bits.
@@ -73,6 +73,11 @@ impl Sheet {
     pub const MOST_TASKS: u32 = 16;
 
     pub const MOST_FRAMES: u32 = 8;
+
+    // The same, as lengths of arrays.
+    pub const TASK_ROOM: usize = Sheet::MOST_TASKS as usize;
+
+    pub const FRAME_ROOM: usize = Sheet::MOST_FRAMES as usize;
 
     pub const GREATEST_TIME: u32 = 1_048_575;
 
@@ -132,7 +137,7 @@ impl TaskSet {
         TaskSet {
             policy: 0,
             task_count: 0,
-            tasks: [Task::blank(); 16],
+            tasks: [Task::blank(); Sheet::TASK_ROOM],
         }
     }
 }
@@ -147,13 +152,13 @@ impl Task {
             deadline: 0,
             lock: 0,
             frame_count: 0,
-            frames: [0; 8],
+            frames: [0; Sheet::FRAME_ROOM],
         }
     }
 }
 
 // How many of a record's frames are in use: no more than there are places.
-pub fn frames_in(count: u32, frames: [u32; 8]) -> usize
+pub fn frames_in(count: u32, frames: [u32; Sheet::FRAME_ROOM]) -> usize
     ensures { λ r. ⌜ (r ≡ min count most-frames) × (length frames ≡ most-frames) ⌝ }
 {
     if count < Sheet::MOST_FRAMES {
@@ -163,7 +168,7 @@ pub fn frames_in(count: u32, frames: [u32; 8]) -> usize
 }
 
 // How many of a set's records are in use.
-pub fn tasks_in(count: u32, tasks: [Task; 16]) -> usize
+pub fn tasks_in(count: u32, tasks: [Task; Sheet::TASK_ROOM]) -> usize
     ensures { λ r. ⌜ (r ≡ min count most-tasks) × (length tasks ≡ most-tasks) ⌝ }
 {
     if count < Sheet::MOST_TASKS {
