@@ -1,42 +1,73 @@
--- Numbers copied over the front of others, one by one; what is delivered.
-use mathlib.Core.Bool.{true, false, cond}
-use mathlib.Core.List.{List, _++_}
+-- The times of an analysis put to lent numbers place by place.
+use mathlib.Core.List.{List, [], _++_}
 use mathlib.Core.Path.{_≡_, refl, sym, ap, _∙_}
 use Prim.Native.Nat.{ℕ, _+_, _*_, _≤_, _<_}
-use native.Mathlib.Nat.{zero-add}
-use native.Mathlib.Numerals.{add-one}
 use native.Mathlib.Omega.{arith}
-use borrow.Author.Tests.{lt-ltb, le-ltb}
-use lib.ListN.{length, getD, take, drop, set, length-append, length-take, length-drop}
-use lib.Seq.{paste-suc}
+use lib.ListN.{length, getD, take, drop, List·getD-map}
+use lib.Seq.{getD-take}
+use Rattle.lent.specs.Lent.{laid}
+use Rattle.lent.proofs.Checks.{no-check}
+use Rattle.lent.proofs.Lent.{by-room, done, turned-tells, done-tells}
+use Rattle.sheet.specs.Constants.{most-frames}
 use Rattle.sheet.specs.declared.Refusal.the-variants.{Room}
-use Rattle.analysis.specs.Delivery.{delivered-outcome, delivered}
+use Rattle.analysis.specs.Times.{number-at, place-of}
+use Rattle.analysis.specs.Findings.{past-end, found, numbers-found, in-turn, times-by-number}
+use Rattle.analysis.specs.Inside.Numbered.{Numbered}
+use Rattle.analysis.specs.Inside.Delivery.{delivering, delivered-outcome, delivered}
 use Rattle.analysis.specs.declared.Outcome.the-variants.{Refused}
 use Rattle.analysis.specs.declared.Analysis.{Analysis}
+use Rattle.analysis.specs.declared.Finding.{Finding}
+use Rattle.analysis.proofs.ByNumber.{Stands, none-stands, stands-more, all-stand, turn-length}
+use Rattle.analysis.proofs.Numbering.{place-in, number-back, number-in}
 
-module _ (xs d : List ℕ) where
-  -- the first i of xs over the front of d
-  pub copied : ℕ → List ℕ
-  copied i = take i xs ++ drop i d
+module _ (a : Analysis) (h : Numbered a) where
+  abbrev n : ℕ
+  n = a .«task_count»
 
-  pub none-copied : d ≡ copied 0
-  unfolding copied
-  none-copied = refl
+  pub number-found : (p : ℕ) → p < n → number-at (numbers-found a) p ≡ found a p .number
+  unfolding number-at numbers-found
+  number-found p l =
+      List·getD-map (λ (f : Finding). f .number) (take n (a .findings)) p past-end ∙ ap (λ (f : Finding). f .number) (getD-take n (a .findings) p past-end l)
 
-  pub length-copied : (i : ℕ) → i ≤ length xs → i ≤ length d → length (copied i) ≡ length d
-  unfolding copied
-  length-copied i h l = simp (length-append, length-take, length-drop) (omega arith)
+  pub number-below : (p : ℕ) → p < n → found a p .number < n
+  number-below p l = rw (← number-found p l) (number-in n (numbers-found a) (h .numbers) p l)
 
-  pub copied-more : (i : ℕ) → i < length xs → i < length d → set (copied i) i (getD xs i 0) ≡ copied (i + 1)
-  unfolding copied
-  copied-more i h l = rw (add-one i) (simp zero-add at (paste-suc d 0 xs i 0 (omega arith) h))
+  pub numbers-apart : (p q : ℕ) → p < n → q < n → found a p .number ≡ found a q .number → p ≡ q
+  unfolding number-at
+  numbers-apart p q l m e = h .numbers .no-two p q l m (number-found p l ∙ e ∙ sym (number-found q m))
 
-module _ (a : Analysis) (room : List ℕ) where
-  pub no-room : length room < 8 * a .«task_count» → (Refused Room ≡ delivered-outcome a (length room)) × (room ≡ delivered a room)
-  unfolding delivered-outcome delivered
-  no-room h = rw (lt-ltb (length room) (8 * a .«task_count») h) (refl, refl)
+  abbrev pub place-found : ℕ → ℕ
+  place-found i = place-of (numbers-found a) i
 
-  pub all-delivered : 8 * a .«task_count» ≤ length room
-      → (a .outcome ≡ delivered-outcome a (length room)) × (copied (a .times) room (8 * a .«task_count») ≡ delivered a room)
-  unfolding delivered-outcome delivered copied
-  all-delivered h = rw (le-ltb (length room) (8 * a .«task_count») h) (refl, refl)
+  pub place-found-in : (i : ℕ) → i < n → place-found i < n
+  place-found-in i l = place-in n (numbers-found a) (h .numbers) i l
+
+  pub number-found-back : (i : ℕ) → i < n → found a (place-found i) .number ≡ i
+  number-found-back i l = sym (number-found (place-found i) (place-found-in i l)) ∙ number-back n (numbers-found a) (h .numbers) i l
+
+  pub by-number-length : length (times-by-number a) ≡ most-frames * n
+  unfolding times-by-number
+  by-number-length = turn-length (λ i. found a (place-found i) .times) most-frames 0 n (λ i l. h .eight (place-found i) (place-found-in i (omega arith)))
+
+  -- ---- after p places
+
+  abbrev pub Put : List ℕ → List ℕ → ℕ → Type 0
+  Put = Stands 0 most-frames n (λ p. found a p .number) (λ p. found a p .times)
+
+  pub no-room : (room : List ℕ) → length room < most-frames * n → (Refused Room ≡ delivered-outcome a room) × (room ≡ delivered a room)
+  unfolding delivered-outcome delivered delivering
+  no-room room l = turned-tells Room Refused (delivering a) room (by-room Room Refused (delivering a) room no-check (rw by-number-length l))
+
+  module _ (room : List ℕ) (enough : most-frames * n ≤ length room) where
+    pub put-more : (now : List ℕ) (p : ℕ) → p < n → Put room now p
+        → Put room (take (most-frames * found a p .number) now ++ found a p .times ++ drop (most-frames * found a p .number + most-frames) now) (p + 1)
+    put-more now p l s = stands-more 0 most-frames n (λ p. found a p .number) (λ p. found a p .times) number-below numbers-apart (h .eight) room enough now p l s
+
+    pub all-put : (now : List ℕ) → Put room now n → (a .outcome ≡ delivered-outcome a room) × (now ≡ delivered a room)
+    unfolding delivered-outcome delivered delivering laid times-by-number
+    all-put now s =
+        let d = done-tells Room Refused (delivering a) room (done Room Refused (delivering a) room no-check (rw by-number-length enough)) in (
+          d .0,
+          all-stand 0 most-frames n (λ p. found a p .number) (λ p. found a p .times) number-below numbers-apart (h .eight) room enough
+              place-found place-found-in number-found-back now s ∙ ap (λ (m : ℕ). times-by-number a ++ drop m room) (sym by-number-length) ∙ d .1,
+        )

@@ -1,21 +1,18 @@
 -- From the steps to the entries: what the ordered copy of an admitted set gives, and what lent numbers hold.
-use mathlib.Core.Bool.{Bool, true, false, cond}
 use mathlib.Core.List.{List, [], _∷_, _++_, map}
-use mathlib.Core.Path.{_≡_, refl, sym, ap, ap₂, _∙_}
-use Prim.Native.Nat.{ℕ, zero, suc, _+_, _-_, _*_, _≤_, _<_, zero-le}
-use native.Mathlib.Decide.{decLt}
+use mathlib.Core.Path.{_≡_, refl, sym, ap, _∙_}
+use Prim.Native.Nat.{ℕ, _≤_, _<_, zero, suc, _+_, _-_, _*_, zero-le}
 use native.Mathlib.Omega.{arith}
-use borrow.Author.Tests.{lt-ltb, le-ltb}
-use lib.Dec.{ltb}
-use lib.ListN.{length, getD, take, drop, replicate, List·getD-eq-default, length-append}
-use lib.Seq.{take-at}
-use Rattle.theory.specs.Tasks.{Task, task-at, frame-count, Admitted as IsAdmitted}
+use lib.ListN.{length, getD, take, drop, replicate, length-append, length-replicate, drop-of-length-le, List·getD-eq-default}
+use lib.Seq.{take-at, drop-cons}
+use Rattle.theory.specs.Tasks.{Task, task-at, frame-count}
 use Rattle.theory.specs.Analysis.{verdict}
-use Rattle.sheet.specs.Tasks.{task-in, records-of, set-with}
-use Rattle.lent.specs.Checks.{Check}
-use Rattle.lent.specs.Lent.{Call, laid, answered, left-after}
-use Rattle.lent.proofs.Lent.{by-checks, by-room, done, turned-tells, done-tells}
+use Rattle.lent.specs.Checks.{Check, first-refusal}
+use Rattle.lent.specs.Lent.{Call, refusal-of, answered, left-after}
+use Rattle.lent.proofs.Checks.{none-first}
+use Rattle.lent.proofs.Lent.{by-checks, turned-tells}
 use Rattle.sheet.specs.Constants.{most-tasks, most-frames}
+use Rattle.sheet.specs.Tasks.{task-in, records-of, set-with}
 use Rattle.sheet.specs.Admission.{decided, list-checks, admission}
 use Rattle.sheet.specs.Reading.{sheet-checks, policy-of, tasks-of, reading}
 use Rattle.sheet.specs.declared.TaskSet.{TaskSet}
@@ -27,139 +24,196 @@ use Rattle.sheet.specs.declared.Refusal.{Refusal}
 use Rattle.sheet.specs.declared.Refusal.the-variants.{Room}
 use Rattle.sheet.proofs.Checks.{none-applies, one-applies}
 use Rattle.sheet.proofs.Records.{tasks-with}
-use Rattle.sheet.proofs.InFields.{Each, no-task, task-more, FramesCounted}
-use Rattle.sheet.proofs.Carried.{Carried, by-admission, count-in-use, by-reading, reading-answer, admitted-reading}
+use Rattle.sheet.proofs.Carried.{Carried, by-admission, by-reading, reading-answer, admitted-reading}
 use Rattle.sheet.proofs.Analysable.{admitted-set-is-admitted}
 use Rattle.order.specs.Order.{priority-order, ordered-set}
-use Rattle.order.specs.Ordered.{order-of, ordered}
-use Rattle.order.specs.Ordered.{tasks-in-order}
+use Rattle.order.specs.Ordered.{order-of, ordered, tasks-in-order}
 use Rattle.order.specs.declared.Ordered.{Ordered}
-use Rattle.order.proofs.Laws.{ordered-length, ordered-at, ordered-admitted, ordered-tasks, ordered-count, order-of-length}
-use Rattle.analysis.specs.Times.{verdict-number, outcome-of, places-from, times-of}
-use Rattle.analysis.specs.Ready.{Ready, numbers-of, all-times}
+use Rattle.order.proofs.Laws.{ordered-admitted, ordered-tasks, ordered-length, ordered-at}
+use Rattle.analysis.specs.Times.{verdict-number, outcome-of, number-at, place-of, places-of, places-from, times-of}
+use Rattle.analysis.specs.Findings.{findings-of, finding-at, findings-from, past-end, found, numbers-found, in-turn, times-by-number}
 use Rattle.analysis.specs.Answers.{refused-analysis, analysis-by, set-analysis, sheet-analysis, analysing, set-analysing, set-outcome, set-left, sheet-analysing, sheet-outcome, sheet-left}
-use Rattle.analysis.specs.Delivery.{delivered-outcome, delivered}
+use Rattle.analysis.specs.Inside.Steps.{HasFrames, numbers-of}
+use Rattle.analysis.specs.Inside.Numbered.{Numbered}
+use Rattle.analysis.specs.Inside.Delivery.{delivering, delivered-outcome, delivered}
 use Rattle.analysis.specs.declared.Outcome.{Outcome}
 use Rattle.analysis.specs.declared.Outcome.the-variants.{Refused}
 use Rattle.analysis.specs.declared.Analysis.{Analysis}
-use Rattle.analysis.proofs.TimesAt.{length-all}
+use Rattle.analysis.specs.declared.Finding.{Finding}
+use native.Mathlib.Decide.{decLt}
+use Rattle.sheet.proofs.InFields.{Each, no-task, task-more, FramesCounted}
+use Rattle.order.proofs.Order.{order-length, order-permutes}
+use Rattle.analysis.proofs.ByPlace.{length-findings, finding-is}
+use Rattle.analysis.proofs.ByNumber.{turn-same}
+use Rattle.analysis.proofs.Numbering.{place-in}
+use Rattle.analysis.proofs.TimesAt.{length-places, length-all}
 
-pub few : (ts : List Task) → Each FramesCounted ts → (p : ℕ) → frame-count (task-at ts p) ≤ 8
+-- ---- the frames of a set are few
+
+pub few : (ts : List Task) → Each FramesCounted ts → (p : ℕ) → frame-count (task-at ts p) ≤ most-frames
 unfolding task-at frame-count
 few [] no-task p = zero-le
 few (t ∷ ts) (task-more h e) zero = h .1
 few (t ∷ ts) (task-more h e) (suc p) = few ts e p
 
--- ---- the ordered copy of an admitted set
-
 module _ (policy : ℕ) (tasks : List Task) (counted : Each FramesCounted tasks) where
-  pub small-ordered : (p : ℕ) → frame-count (task-at (ordered-set policy tasks) p) ≤ 8
+  pub small-ordered : (p : ℕ) → frame-count (task-at (ordered-set policy tasks) p) ≤ most-frames
   unfolding task-at frame-count
   small-ordered p = go (decLt p (length tasks))
     where
-      go : Dec (p < length tasks) → frame-count (task-at (ordered-set policy tasks) p) ≤ 8
+      go : Dec (p < length tasks) → frame-count (task-at (ordered-set policy tasks) p) ≤ most-frames
       go (yes h) = rw (ordered-at policy tasks p h) (few tasks counted (getD (priority-order policy tasks) p 0))
       go (no n) =
           rw (List·getD-eq-default (ordered-set policy tasks) (record { period = 0; deadline = 0; lock = 0; frames = [] }) {n = p} (omega (arith, ordered-length policy tasks))) zero-le
 
-  pub times-long : length (times-of policy tasks) ≡ 8 * length tasks
+  pub times-long : length (times-of policy tasks) ≡ most-frames * length tasks
   unfolding times-of
   times-long = length-all _ _ small-ordered 0 (length tasks)
 
-module _ (s : TaskSet) (room : length (s .tasks) ≡ 16) (e : admission s ≡ Admitted) where
+-- ---- the analysis by task number
+
+module _ (policy : ℕ) (tasks : List Task) where
+  abbrev order : List ℕ
+  order = priority-order policy tasks
+
+  abbrev set : List Task
+  set = ordered-set policy tasks
+
+  abbrev analysis : Analysis
+  analysis = analysis-by Admitted policy tasks
+
+  numbers-from : (p n : ℕ) → p + n ≡ length order → map (λ f. f .number) (findings-from order set p n) ≡ drop p order
+  unfolding findings-from finding-at number-at
+  numbers-from p zero h = sym (drop-of-length-le order {i = p} (omega arith))
+  numbers-from p (suc n) h = rw (drop-cons order p 0 (omega arith)) (ap (λ (l : List ℕ). getD order p 0 ∷ l) (numbers-from (suc p) n (omega arith)))
+
+  numbers-found-are : numbers-found analysis ≡ order
+  unfolding numbers-found analysis-by findings-of
+  numbers-found-are =
+      ap (map (λ f. f .number)) (take-at (findings-from order set 0 (length set)) _ (length tasks) (length-findings order set 0 (length set) ∙ ordered-length policy tasks))
+      ∙ numbers-from 0 (length set) (omega (arith, ordered-length policy tasks, order-length policy tasks))
+
+  found-at : (p : ℕ) → p < length tasks → found analysis p ≡ finding-at order set p
+  unfolding analysis-by
+  found-at p h = finding-is order set p past-end (rw (ordered-length policy tasks) h)
+
+  times-found : (p : ℕ) → p < length tasks → found analysis p .times ≡ places-of set p
+  unfolding finding-at
+  times-found p h = ap (λ (f : Finding). f .times) (found-at p h)
+
+  places-in-turn : (i n : ℕ) → in-turn (λ j. places-of set (place-of order j)) i n ≡ places-from order set i n
+  unfolding in-turn places-from
+  places-in-turn i zero = refl
+  places-in-turn i (suc n) = ap (λ (l : List ℕ). places-of set (place-of order i) ++ l) (places-in-turn (suc i) n)
+
+  -- the times by number are those of the definition
+  pub by-number-is : times-by-number analysis ≡ times-of policy tasks
+  unfolding times-by-number times-of analysis-by
+  by-number-is =
+      turn-same (λ i. found analysis (place-of (numbers-found analysis) i) .times) (λ i. places-of set (place-of order i)) 0 (length tasks)
+      (λ i h. ap (λ (l : List ℕ). found analysis (place-of l i) .times) numbers-found-are
+      ∙ times-found (place-of order i) (place-in (length tasks) order (order-permutes policy tasks) i (omega arith)))
+      ∙ places-in-turn 0 (length tasks)
+
+  pub analysis-numbered : length tasks ≤ most-tasks → Each FramesCounted tasks → Numbered analysis
+  unfolding analysis-by findings-of
+  analysis-numbered small counted =
+      record {
+        few = small;
+        numbers = rw numbers-found-are (order-permutes policy tasks);
+        room = simp (length-append, length-replicate) (omega (arith, length-findings order set 0 (length set), ordered-length policy tasks));
+        eight = λ p h. ap length (times-found p h) ∙ length-places set p (small-ordered policy tasks counted p);
+      }
+
+refused-numbered : (policy : ℕ) (tasks : List Task) (r : Refusal) → Numbered (analysis-by (refused r) policy tasks)
+unfolding analysis-by refused-analysis numbers-found
+refused-numbered policy tasks r =
+    record {
+      few = zero-le;
+      numbers =
+          record {
+            same-length = refl;
+            each-number = λ i h. let z : ⊥ = omega arith in absurd z;
+            each-place = λ p h. let z : ⊥ = omega arith in absurd z;
+            no-two = λ p q h. let z : ⊥ = omega arith in absurd z;
+          };
+      room = refl;
+      eight = λ p h. let z : ⊥ = omega arith in absurd z;
+    }
+
+-- ---- the ordered copy of an admitted set
+
+module _ (s : TaskSet) (room : length (s .tasks) ≡ most-tasks) (e : admission s ≡ Admitted) where
   abbrev tasks : List Task
   tasks = map task-in (records-of s)
 
-  pub ready : Ready (ordered s)
-  ready =
+  pub has-frames : HasFrames (tasks-in-order (ordered s))
+  has-frames =
       record {
         framed = λ p h.
             rw (ordered-tasks s) (ordered-admitted (s .policy) tasks (admitted-set-is-admitted s room e) .each-task p (rw (ordered-tasks s) at h) .well-formed .has-frame);
-        eight = λ p. rw (ordered-tasks s) (small-ordered (s .policy) tasks (by-admission s room e .counted) p);
       }
 
   numbers-are : numbers-of (ordered s) ≡ priority-order (s .policy) tasks
   unfolding numbers-of ordered order-of
   numbers-are = take-at (priority-order (s .policy) tasks) _ (length (priority-order (s .policy) tasks)) refl
 
-  -- what the steps find is the analysis
-  pub analysis-is : (o : Ordered) (out : Outcome) (n : ℕ) (times : List ℕ) → o ≡ ordered s
-      → out ≡ verdict-number (numbers-of o) (verdict (tasks-in-order o)) → n ≡ length tasks → times ≡ all-times o
-      → _≡_ {A = Analysis} (record { outcome = out; «task_count» = n; times = times }) (analysis-by Admitted (s .policy) tasks)
-  unfolding analysis-by outcome-of times-of all-times
-  analysis-is o out n times eo e-out en et =
-      rw (e-out, en, et, eo, numbers-are, ordered-tasks s, ordered-length (s .policy) tasks)
+  -- what the steps find is the analysis, and its numbers are in order
+  pub analysis-is : (o : Ordered) (out : Outcome) (n : ℕ) (findings : List Finding) → o ≡ ordered s
+      → out ≡ verdict-number (numbers-of o) (verdict (tasks-in-order o)) → n ≡ length tasks → findings ≡ findings-of (numbers-of o) (tasks-in-order o)
+      → _≡_ {A = Analysis} (record { outcome = out; «task_count» = n; findings = findings }) (analysis-by Admitted (s .policy) tasks)
+  unfolding analysis-by outcome-of
+  analysis-is o out n findings eo e-out en ef = rw (e-out, en, ef, eo, numbers-are, ordered-tasks s)
+
+  pub set-numbered : Numbered (analysis-by Admitted (s .policy) tasks)
+  set-numbered = let c = by-admission s room e in analysis-numbered (s .policy) tasks (c .few-tasks) (c .counted)
+
+-- the set of an admitted sheet
+set-of-reading : (s : List ℕ) → reading s .answer ≡ Admitted
+    → analysis-by Admitted (reading s .set .policy) (map task-in (records-of (reading s .set))) ≡ analysis-by Admitted (policy-of s) (tasks-of s)
+unfolding set-with
+set-of-reading s e =
+    ap (λ (r : Reading). analysis-by Admitted (r .set .policy) (map task-in (records-of (r .set)))) (admitted-reading s e)
+    ∙ ap (analysis-by Admitted (policy-of s)) (tasks-with (policy-of s) (tasks-of s))
 
 -- ---- lent numbers
 
--- What an analysis by value delivers is what the call answers and leaves: of tasks that the checks turn away or not, with eight times to a task.
-module _ (cs : List (Check Refusal)) (policy : ℕ) (tasks : List Task) (room : List ℕ)
-    (long : decided cs ≡ Admitted → length (times-of policy tasks) ≡ most-frames * length tasks) where
-  abbrev call : Call Refusal ℕ Outcome
-  call = analysing cs policy tasks
+-- What an analysis delivers is what the call answers and leaves, of tasks that no check turns away.
+module _ (cs : List (Check Refusal)) (policy : ℕ) (tasks : List Task) (room : List ℕ) where
+  admitted-delivers : decided cs ≡ Admitted
+      → (delivered-outcome (analysis-by Admitted policy tasks) room ≡ answered Room Refused (analysing cs policy tasks) room)
+      × (delivered (analysis-by Admitted policy tasks) room ≡ left-after Room (analysing cs policy tasks) room)
+  unfolding delivered-outcome delivered delivering analysing answered left-after refusal-of first-refusal analysis-by
+  admitted-delivers e = rw (none-first cs _ (none-applies cs e), by-number-is policy tasks) (refl, refl)
 
-  abbrev Delivers : Answer → Type 0
-  Delivers a =
-      (delivered-outcome (analysis-by a policy tasks) (length room) ≡ answered Room Refused call room)
-      × (delivered (analysis-by a policy tasks) room ≡ left-after Room call room)
-
-  refused-so : (r : Refusal) → decided cs ≡ refused r → Delivers (refused r)
-  unfolding delivered-outcome delivered analysis-by refused-analysis analysing
-  refused-so r e = rw (le-ltb (length room) 0 zero-le) (turned-tells Room Refused call room (by-checks Room Refused call room r (one-applies cs r e)))
-
-  module _ (e : decided cs ≡ Admitted) where
-    no-place : length room < most-frames * length tasks → Delivers Admitted
-    unfolding delivered-outcome delivered analysis-by analysing
-    no-place h =
-        rw (lt-ltb (length room) (most-frames * length tasks) h)
-        (turned-tells Room Refused call room (by-room Room Refused call room (none-applies cs e) (rw (long e) h)))
-
-    placed-well : most-frames * length tasks ≤ length room → Delivers Admitted
-    unfolding delivered-outcome delivered analysis-by analysing laid
-    placed-well h =
-        let d = done-tells Room Refused call room (done Room Refused call room (none-applies cs e) (rw (long e) h)) in
-        rw (le-ltb (length room) (most-frames * length tasks) h, take-at (times-of policy tasks) _ (most-frames * length tasks) (long e))
-        (d .0, rw (long e) at (d .1))
-
-  pub delivery : Delivers (decided cs)
-  delivery = go (decided cs) refl
-    where
-      roomy : decided cs ≡ Admitted → Dec (length room < most-frames * length tasks) → Delivers Admitted
-      roomy e (yes h) = no-place e h
-      roomy e (no h) = placed-well e (omega arith)
-
-      go : (a : Answer) → decided cs ≡ a → Delivers a
-      go Admitted e = roomy e (decLt (length room) (most-frames * length tasks))
-      go (refused r) e = refused-so r e
+  refused-leaves : (r : Refusal) → decided cs ≡ refused r
+      → (Refused r ≡ answered Room Refused (analysing cs policy tasks) room) × (room ≡ left-after Room (analysing cs policy tasks) room)
+  unfolding analysing
+  refused-leaves r e = turned-tells Room Refused (analysing cs policy tasks) room (by-checks Room Refused (analysing cs policy tasks) room r (one-applies cs r e))
 
 -- a set by value, and a sheet
-pub set-delivered : (s : TaskSet) (room : List ℕ) → length (s .tasks) ≡ most-tasks
-    → (delivered-outcome (set-analysis s) (length room) ≡ set-outcome s room) × (delivered (set-analysis s) room ≡ set-left s room)
-unfolding set-analysis set-outcome set-left set-analysing admission
-set-delivered s room sixteen =
-    delivery (list-checks (s .policy) (s .«task_count») (records-of s)) (s .policy) (map task-in (records-of s)) room
-    (λ e. times-long (s .policy) (map task-in (records-of s)) (by-admission s sixteen e .counted))
+module _ (s : TaskSet) (room : List ℕ) where
+  pub set-done : admission s ≡ Admitted
+      → (delivered-outcome (analysis-by Admitted (s .policy) (map task-in (records-of s))) room ≡ set-outcome s room)
+      × (delivered (analysis-by Admitted (s .policy) (map task-in (records-of s))) room ≡ set-left s room)
+  unfolding set-outcome set-left set-analysing admission
+  set-done e = admitted-delivers (list-checks (s .policy) (s .«task_count») (records-of s)) (s .policy) (map task-in (records-of s)) room e
 
-pub sheet-delivered : (s room : List ℕ)
-    → (delivered-outcome (sheet-analysis s) (length room) ≡ sheet-outcome s room) × (delivered (sheet-analysis s) room ≡ sheet-left s room)
-unfolding sheet-analysis sheet-outcome sheet-left sheet-analysing
-sheet-delivered s room =
-    delivery (sheet-checks s) (policy-of s) (tasks-of s) room
-    (λ e. times-long (policy-of s) (tasks-of s) (by-reading s (reading-answer s ∙ e) .counted))
+  pub set-turned : (r : Refusal) → admission s ≡ refused r → (Refused r ≡ set-outcome s room) × (room ≡ set-left s room)
+  unfolding set-outcome set-left set-analysing admission
+  set-turned r e = refused-leaves (list-checks (s .policy) (s .«task_count») (records-of s)) (s .policy) (map task-in (records-of s)) room r e
 
--- an analysis never has more than sixteen tasks
-pub few-analysed : (a : Answer) (policy : ℕ) (tasks : List Task) → (a ≡ Admitted → length tasks ≤ 16) → analysis-by a policy tasks .«task_count» ≤ 16
-unfolding analysis-by refused-analysis
-few-analysed Admitted policy tasks h = h refl
-few-analysed (refused r) policy tasks h = zero-le
+module _ (s room : List ℕ) where
+  pub sheet-done : reading s .answer ≡ Admitted
+      → (delivered-outcome (analysis-by Admitted (reading s .set .policy) (map task-in (records-of (reading s .set)))) room ≡ sheet-outcome s room)
+      × (delivered (analysis-by Admitted (reading s .set .policy) (map task-in (records-of (reading s .set)))) room ≡ sheet-left s room)
+  unfolding sheet-outcome sheet-left sheet-analysing
+  sheet-done e =
+      rw (set-of-reading s e) (admitted-delivers (sheet-checks s) (policy-of s) (tasks-of s) room (sym (reading-answer s) ∙ e))
 
-pub few-of-set : (s : TaskSet) → length (s .tasks) ≡ 16 → set-analysis s .«task_count» ≤ 16
-unfolding set-analysis
-few-of-set s sixteen = few-analysed (admission s) (s .policy) (map task-in (records-of s)) (λ e. by-admission s sixteen e .few-tasks)
-
-pub few-of-sheet : (s : List ℕ) → sheet-analysis s .«task_count» ≤ 16
-unfolding sheet-analysis
-few-of-sheet s = few-analysed (decided (sheet-checks s)) (policy-of s) (tasks-of s) (λ e. by-reading s (reading-answer s ∙ e) .few-tasks)
+  pub sheet-turned : (r : Refusal) → reading s .answer ≡ refused r → (Refused r ≡ sheet-outcome s room) × (room ≡ sheet-left s room)
+  unfolding sheet-outcome sheet-left sheet-analysing
+  sheet-turned r e = refused-leaves (sheet-checks s) (policy-of s) (tasks-of s) room r (sym (reading-answer s) ∙ e)
 
 -- ---- by value
 
@@ -175,12 +229,18 @@ module _ (s : TaskSet) where
 module _ (s : List ℕ) where
   pub sheet-admitted : reading s .answer ≡ Admitted
       → analysis-by Admitted (reading s .set .policy) (map task-in (records-of (reading s .set))) ≡ sheet-analysis s
-  unfolding sheet-analysis set-with
-  sheet-admitted e =
-      ap (λ (r : Reading). analysis-by Admitted (r .set .policy) (map task-in (records-of (r .set)))) (admitted-reading s e)
-      ∙ ap (analysis-by Admitted (policy-of s)) (tasks-with (policy-of s) (tasks-of s))
-      ∙ ap (λ (a : Answer). analysis-by a (policy-of s) (tasks-of s)) (sym (sym (reading-answer s) ∙ e))
+  unfolding sheet-analysis
+  sheet-admitted e = set-of-reading s e ∙ ap (λ (a : Answer). analysis-by a (policy-of s) (tasks-of s)) (sym (sym (reading-answer s) ∙ e))
 
   pub sheet-refused : (r : Refusal) → reading s .answer ≡ refused r → refused-analysis r ≡ sheet-analysis s
   unfolding sheet-analysis analysis-by
   sheet-refused r e = rw (← reading-answer s, e)
+
+-- the analysis of a sheet can go to task-number order, refused or not
+pub sheet-numbered : (s : List ℕ) → Numbered (sheet-analysis s)
+unfolding sheet-analysis
+sheet-numbered s = go (decided (sheet-checks s)) refl
+  where
+    go : (a : Answer) → decided (sheet-checks s) ≡ a → Numbered (analysis-by a (policy-of s) (tasks-of s))
+    go Admitted e = let c = by-reading s (reading-answer s ∙ e) in analysis-numbered (policy-of s) (tasks-of s) (c .few-tasks) (c .counted)
+    go (refused r) e = refused-numbered (policy-of s) (tasks-of s) r

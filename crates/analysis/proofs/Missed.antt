@@ -11,9 +11,9 @@ use Rattle.order.specs.declared.Ordered.{Ordered}
 use Rattle.order.specs.declared.Blocker.{Blocker}
 use Rattle.order.specs.declared.Blocker.the-variants.{At, Nobody}
 use Rattle.analysis.specs.Times.{number-at, blocker-number}
-use Rattle.analysis.specs.Ready.{numbers-of}
+use Rattle.analysis.specs.Inside.Steps.{numbers-of}
 use Rattle.analysis.specs.declared.Outcome.the-variants.{Missed}
-use Rattle.analysis.proofs.PlaceOf.{tasks-within, number-is}
+use Rattle.analysis.proofs.InUse.{tasks-within, number-is}
 
 -- the place in an answer
 abbrev place-in : Blocker → Option ℕ

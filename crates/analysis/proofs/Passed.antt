@@ -1,6 +1,6 @@
 -- The verdict by looking at the places from the front.
 use mathlib.Core.Bool.{true, false, not}
-use mathlib.Core.List.{List, []}
+use mathlib.Core.List.{List}
 use mathlib.Core.Path.{_≡_, refl, sym, ap, _∙_}
 use Prim.Native.Nat.{ℕ, _+_, _≤_, _<_}
 use native.Mathlib.Decide.{ℕ-discrete}
@@ -11,10 +11,10 @@ use Rattle.theory.specs.Tasks.{Task}
 use Rattle.theory.specs.Analysis.{passes, blocker, verdict}
 use Rattle.theory.proofs.Verdict.{verdict-holds, verdict-missed}
 use Rattle.analysis.specs.Times.{number-at, blocker-number, verdict-number}
-use Rattle.analysis.specs.Rows.{row-of, rows-of}
-use Rattle.analysis.specs.declared.Row.{Row}
+use Rattle.analysis.specs.Findings.{past-end, finding-at, findings-of}
+use Rattle.analysis.specs.declared.Finding.{Finding}
 use Rattle.analysis.specs.declared.Outcome.the-variants.{Holds, Missed}
-use Rattle.analysis.proofs.Rows.{row-is}
+use Rattle.analysis.proofs.ByPlace.{finding-is}
 
 module _ (set : List Task) where
   -- every task before place p passes
@@ -25,16 +25,16 @@ module _ (set : List Task) where
   unfolding Passed
   none-passed q h = let z : ⊥ = omega arith in absurd z
 
-  -- what a row says of its place
-  module _ (rows : List Row) (p : ℕ) (e : rows ≡ rows-of set) (h : p < length set) where
-    said : passes set p ≡ getD rows p (record { passes = false; times = [] }) .passes
-    unfolding row-of
-    said = sym (ap (λ (r : Row). r .passes) (ap (λ (l : List Row). getD l p (record { passes = false; times = [] })) e ∙ row-is set p _ h))
+  -- what a finding says of its place
+  module _ (order : List ℕ) (findings : List Finding) (p : ℕ) (e : findings ≡ findings-of order set) (h : p < length set) where
+    said : passes set p ≡ getD findings p past-end .passes
+    unfolding finding-at
+    said = sym (ap (λ (f : Finding). f .passes) (ap (λ (l : List Finding). getD l p past-end) e ∙ finding-is order set p past-end h))
 
-    pub says-no : not (getD rows p (record { passes = false; times = [] }) .passes) ≡ true → passes set p ≡ false
+    pub says-no : not (getD findings p past-end .passes) ≡ true → passes set p ≡ false
     says-no t = said ∙ not-true _ t
 
-    pub says-yes : not (getD rows p (record { passes = false; times = [] }) .passes) ≡ false → passes set p ≡ true
+    pub says-yes : not (getD findings p past-end .passes) ≡ false → passes set p ≡ true
     says-yes t = said ∙ not-false _ t
 
   pub one-passed : (p : ℕ) → Passed p → passes set p ≡ true → Passed (p + 1)

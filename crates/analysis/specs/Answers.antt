@@ -1,9 +1,9 @@
 -- What the analysis of a set answers and leaves, refused calls too, and the numbers that the workbench gets.
-use mathlib.Core.List.{List, [], _∷_, _++_, map}
-use Prim.Native.Nat.{ℕ, _+_, _-_, _*_}
+use mathlib.Core.List.{List, map}
+use Prim.Native.Nat.{ℕ, _+_, _*_}
 use lib.ListN.{length, replicate}
 use Rattle.theory.specs.Tasks.{Task}
-use Rattle.sheet.specs.Constants.{most-frames, most-tasks}
+use Rattle.sheet.specs.Constants.{most-tasks}
 use Rattle.sheet.specs.Refusals.{number-of}
 use Rattle.sheet.specs.Tasks.{task-in, records-of}
 use Rattle.lent.specs.Checks.{Check}
@@ -16,21 +16,31 @@ use Rattle.sheet.specs.declared.Answer.the-variants.{Admitted}
 use Rattle.sheet.specs.declared.Answer.the-variants.{Refused as refused}
 use Rattle.sheet.specs.declared.Refusal.{Refusal}
 use Rattle.sheet.specs.declared.Refusal.the-variants.{Room}
+use Rattle.order.specs.Order.{priority-order, ordered-set}
 use Rattle.analysis.specs.Times.{outcome-of, times-of}
+use Rattle.analysis.specs.Findings.{no-finding, findings-of}
 use Rattle.order.specs.declared.Blocker.{Blocker}
 use Rattle.order.specs.declared.Blocker.the-variants.{At, Nobody}
 use Rattle.analysis.specs.declared.Outcome.{Outcome}
 use Rattle.analysis.specs.declared.Outcome.the-variants.{Holds, Missed, Refused}
 use Rattle.analysis.specs.declared.Analysis.{Analysis}
 
--- "It gets 0 for holds, 1 to 12 for a refusal, and 100 + 17·p + b for a miss of task p with blocker b (16 for none)."
+-- the blocker's number; none has the number behind the last task's
 abbrev pub blocker-code : Blocker → ℕ
 blocker-code (At b) = b
-blocker-code Nobody = 16
+blocker-code Nobody = most-tasks
 
+-- the least number of a miss, and how many numbers there are for a blocker
+abbrev pub first-miss : ℕ
+first-miss = 100
+
+abbrev pub blockers : ℕ
+blockers = most-tasks + 1
+
+-- one number for each outcome: 0, the refusal's, or one that gives the missed task and its blocker
 abbrev pub code : Outcome → ℕ
 code Holds = 0
-code (Missed p b) = 100 + 17 * p + blocker-code b
+code (Missed p b) = first-miss + blockers * p + blocker-code b
 code (Refused r) = number-of r
 
 -- the outcome of tasks that were answered so
@@ -38,17 +48,17 @@ unfoldable pub outcome-by : Answer → ℕ → List Task → Outcome
 outcome-by Admitted policy tasks = outcome-of policy tasks
 outcome-by (refused r) policy tasks = Refused r
 
--- a refused set: no task, and 0 throughout
+-- a refused set has no task
 unfoldable pub refused-analysis : Refusal → Analysis
-refused-analysis r = record { outcome = Refused r; «task_count» = 0; times = replicate (most-frames * most-tasks) 0 }
+refused-analysis r = record { outcome = Refused r; «task_count» = 0; findings = replicate most-tasks no-finding }
 
--- by value: the times in room for sixteen tasks, 0 behind those of the set
+-- the analysis by value: the outcome, and what was found, place by place
 unfoldable pub analysis-by : Answer → ℕ → List Task → Analysis
 analysis-by Admitted policy tasks =
     record {
       outcome = outcome-of policy tasks;
       «task_count» = length tasks;
-      times = times-of policy tasks ++ replicate (most-frames * (most-tasks - length tasks)) 0;
+      findings = findings-of (priority-order policy tasks) (ordered-set policy tasks);
     }
 analysis-by (refused r) policy tasks = refused-analysis r
 

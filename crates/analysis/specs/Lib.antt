@@ -1,7 +1,6 @@
--- The analysis of a set by task numbers: verdict, response times, what the entries answer and leave, and the runs of the set.
+-- The analysis of a set: verdict and response times, what is found place by place, what the entries answer and leave, and the runs of the set.
 pub mod Times
-pub mod Rows
-pub mod Ready
+pub mod Findings
 pub mod Answers
-pub mod Delivery
 pub mod Runs
+pub mod Inside

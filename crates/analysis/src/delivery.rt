@@ -1,24 +1,42 @@
-// The times of an analysis put to lent numbers.
+// The times of an analysis put to lent numbers, in task-number order.
 ghost use mathlib.Core.Path.{_≡_};
-ghost use Prim.Native.Nat.{_≤_};
-ghost use lib.ListN.{length};
-ghost use Rattle.analysis.specs.Delivery.{delivered-outcome, delivered};
+ghost use mathlib.Core.List.{_++_};
+ghost use Prim.Native.Nat.{_+_, _≤_};
+ghost use lib.ListN.{length, take, drop};
+ghost use Rattle.sheet.specs.Constants.{most-frames};
+ghost use Rattle.analysis.specs.Inside.Numbered.{Numbered};
+ghost use Rattle.analysis.specs.Inside.Delivery.{delivered-outcome, delivered};
 use crate::Analysis;
 use crate::Outcome;
 use sheet::Refusal;
+use sheet::Sheet;
 
-// Nothing is touched where there is no room for all times; a refused analysis has none.
-pub fn deliver(a: Analysis, times: &mut [u32]) -> Outcome
-    requires { ⌜ a .«task_count» ≤ 16 ⌝ }
-    ensures { λ r. ⌜ (r ≡ delivered-outcome a (length (now (times .entry)))) × (now (times .exit) ≡ delivered a (now (times .entry))) ⌝ }
+// How many places a task has for its times.
+const WIDTH: usize = Sheet::MOST_FRAMES as usize;
+
+// The times of one task put over those that stand from `at` on.
+fn put_times(times: &mut [u32], at: usize, row: [u32; 8])
+    requires { ⌜ at + most-frames ≤ length (now times) ⌝ }
+    ensures { λ _. ⌜ (length row ≡ most-frames) × (now (times .exit) ≡ take at (now (times .entry)) ++ row ++ drop (at + most-frames) (now (times .entry))) ⌝ }
 {
-    let need = 8 * a.task_count as usize;
-    if times.len() < need {
+    for k in 0..WIDTH {
+        times[at + k] = row[k];
+    }
+}
+
+// Nothing is touched where there is no room for all times.
+pub fn deliver(a: Analysis, times: &mut [u32]) -> Outcome
+    requires { ⌜ Numbered a ⌝ }
+    ensures { λ r. ⌜ (r ≡ delivered-outcome a (now (times .entry))) × (now (times .exit) ≡ delivered a (now (times .entry))) ⌝ }
+{
+    let count = a.task_count as usize;
+    if times.len() < WIDTH * count {
         return Outcome::Refused(Refusal::Room);
     }
-    let found = a.times;
-    for i in 0..need {
-        times[i] = found[i];
+    for p in 0..count {
+        let f = a.findings[p];
+        let row = f.times;
+        put_times(times, WIDTH * (f.number as usize), row);
     }
     a.outcome
 }

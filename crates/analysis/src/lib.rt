@@ -1,20 +1,21 @@
 // The analysis of a set: order by policy, response times, verdict.
 ghost use mathlib.Core.List.{map};
 ghost use mathlib.Core.Path.{_≡_};
-ghost use Prim.Native.Nat.{_<_};
 ghost use Rattle.sheet.specs.Tasks.{task-in, records-of};
 ghost use Rattle.sheet.specs.Admission.{admission};
 ghost use Rattle.sheet.specs.declared.Answer.the-variants.{Admitted};
+ghost use Rattle.analysis.specs.Findings.{no-finding};
 ghost use Rattle.analysis.specs.Answers.{blocker-code, code, refused-analysis, analysis-by, set-analysis, sheet-analysis, set-outcome, set-left, sheet-outcome, sheet-left};
+ghost use Rattle.analysis.specs.Inside.Numbered.{Numbered};
 
 mod delivery;
-mod passing;
-mod places;
+mod findings;
 mod verdict;
 
 use order::Blocker;
 use sheet::Answer;
 use sheet::Refusal;
+use sheet::Sheet;
 use sheet::TaskSet;
 
 // What the analysis answers: the set holds, or the first task in priority order that does not pass, with its blocker, or the one refusal.
@@ -24,73 +25,105 @@ pub enum Outcome {
     Refused(Refusal),
 }
 
-// The outcome, how many tasks were analysed, and their response times: eight places for each, in task-number order.
-pub struct Analysis {
-    pub outcome: Outcome,
-    pub task_count: u32,
-    pub times: [u32; 128],
-}
-
-// What is kept of one task: whether it passes, and its eight places.
-pub struct Row {
+// What the analysis finds of the task at a place of the priority order: its number, what the report prints of it, whether it passes, and
+// its eight response times.
+pub struct Finding {
+    pub number: u32,
+    pub period: u32,
+    pub deadline: u32,
+    pub frame_count: u32,
+    pub blocked: u32,
     pub passes: bool,
     pub times: [u32; 8],
 }
 
+// The outcome, how many tasks were analysed, and what was found of each, in priority order.
+pub struct Analysis {
+    pub outcome: Outcome,
+    pub task_count: u32,
+    pub findings: [Finding; 16],
+}
+
+impl Finding {
+    // A place without a task.
+    pub fn blank() -> Finding
+        ensures { λ r. ⌜ r ≡ no-finding ⌝ }
+    {
+        Finding {
+            number: 0,
+            period: 0,
+            deadline: 0,
+            frame_count: 0,
+            blocked: 0,
+            passes: false,
+            times: [0; 8],
+        }
+    }
+}
+
 impl Outcome {
-    // 0 for holds, 1 to 12 for a refusal, 100 + 17p + b for a miss.
+    // The least number of a miss.
+    pub const FIRST_MISS: u64 = 100;
+
+    // How many numbers there are for a blocker, none included.
+    pub const BLOCKERS: u64 = Sheet::MOST_TASKS as u64 + 1;
+
+    // 0 for holds, the refusal's number, or the number of a miss with its blocker.
     pub fn code(self) -> u64
         ensures { λ r. ⌜ r ≡ code self ⌝ }
     {
         match self {
             Outcome::Holds => 0,
-            Outcome::Missed(task, blocker) => 100 + 17 * (task as u64) + blocker_code(blocker),
+            Outcome::Missed(task, blocker) => {
+                Outcome::FIRST_MISS
+                    + Outcome::BLOCKERS * (task as u64)
+                    + blocker_code(blocker) as u64
+            }
             Outcome::Refused(refusal) => refusal.number() as u64,
         }
     }
 }
 
-// The blocker's number, 16 for none.
-fn blocker_code(blocker: Blocker) -> u64
-    ensures { λ r. ⌜ (r ≡ blocker-code blocker) × (r < 4294967296) ⌝ }
+// The blocker's number; none has the number behind the last task's.
+pub fn blocker_code(blocker: Blocker) -> u32
+    ensures { λ r. ⌜ r ≡ blocker-code blocker ⌝ }
 {
     match blocker {
-        Blocker::At(b) => b as u64,
-        Blocker::Nobody => 16,
+        Blocker::At(b) => b,
+        Blocker::Nobody => Sheet::MOST_TASKS,
     }
 }
 
-// A refused set has no task and no times.
+// A refused set has no task.
 fn refused(refusal: Refusal) -> Analysis
     ensures { λ r. ⌜ r ≡ refused-analysis refusal ⌝ }
 {
     Analysis {
         outcome: Outcome::Refused(refusal),
         task_count: 0,
-        times: [0; 128],
+        findings: [Finding::blank(); 16],
     }
 }
 
-// An admitted set: put in order, analysed place by place, answered by task numbers.
+// An admitted set: put in order and analysed place by place.
 fn analysed(set: TaskSet) -> Analysis
     requires { ⌜ admission set ≡ Admitted ⌝ }
-    ensures { λ r. ⌜ r ≡ analysis-by Admitted (set .policy) (map task-in (records-of set)) ⌝ }
+    ensures { λ r. ⌜ (r ≡ analysis-by Admitted (set .policy) (map task-in (records-of set))) × (Numbered r) ⌝ }
 {
     let tasks = set.tasks;
     let count = sheet::tasks_in(set.task_count, tasks);
     let o = order::in_order(set);
-    let rows = passing::rows_of(o);
-    let outcome = verdict::verdict_of(o, rows);
-    let times = places::all_times(o, rows);
+    let findings = findings::findings_of(o);
+    let outcome = verdict::verdict_of(o, findings);
     Analysis {
         outcome,
         task_count: count as u32,
-        times,
+        findings,
     }
 }
 
-// A set by value.
-pub fn analyse(set: TaskSet) -> Analysis
+// The analysis of a set by value.
+pub fn analysis_of_set(set: TaskSet) -> Analysis
     ensures { λ r. ⌜ r ≡ set-analysis set ⌝ }
 {
     match admission::admit(set) {
@@ -99,8 +132,8 @@ pub fn analyse(set: TaskSet) -> Analysis
     }
 }
 
-// A sheet.
-pub fn analyse_bytes(bytes: &[u8]) -> Analysis
+// The analysis of a sheet.
+pub fn analysis_of_sheet(bytes: &[u8]) -> Analysis
     ensures { λ r. ⌜ r ≡ sheet-analysis (now (bytes .entry)) ⌝ }
 {
     let reading = reader::read_sheet(bytes);
@@ -112,20 +145,25 @@ pub fn analyse_bytes(bytes: &[u8]) -> Analysis
     }
 }
 
-// A set by value, its times to lent numbers.
+// Analyses a set by value; its times go to lent numbers.
 pub fn analyse_set(set: TaskSet, times: &mut [u32]) -> Outcome
     ensures { λ r. ⌜ (r ≡ set-outcome set (now (times .entry))) × (now (times .exit) ≡ set-left set (now (times .entry))) ⌝ }
 {
-    let tasks = set.tasks;
-    sheet::tasks_in(set.task_count, tasks);
-    let analysis = analyse(set);
-    delivery::deliver(analysis, times)
+    match admission::admit(set) {
+        Answer::Admitted => delivery::deliver(analysed(set), times),
+        Answer::Refused(refusal) => Outcome::Refused(refusal),
+    }
 }
 
-// A sheet, its times to lent numbers.
+// Analyses a sheet; its times go to lent numbers.
 pub fn analyse_sheet(bytes: &[u8], times: &mut [u32]) -> Outcome
     ensures { λ r. ⌜ (r ≡ sheet-outcome (now (bytes .entry)) (now (times .entry))) × (now (times .exit) ≡ sheet-left (now (bytes .entry)) (now (times .entry))) ⌝ }
 {
-    let analysis = analyse_bytes(bytes);
-    delivery::deliver(analysis, times)
+    let reading = reader::read_sheet(bytes);
+    let answer = reading.answer;
+    let set = reading.set;
+    match answer {
+        Answer::Admitted => delivery::deliver(analysed(set), times),
+        Answer::Refused(refusal) => Outcome::Refused(refusal),
+    }
 }

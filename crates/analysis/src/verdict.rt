@@ -5,11 +5,11 @@ ghost use lib.ListN.{length};
 ghost use Rattle.theory.specs.Analysis.{blocker, verdict};
 ghost use Rattle.order.specs.Ordered.{tasks-in-order};
 ghost use Rattle.analysis.specs.Times.{number-at, blocker-number, verdict-number};
-ghost use Rattle.analysis.specs.Rows.{rows-of};
-ghost use Rattle.analysis.specs.Ready.{numbers-of};
+ghost use Rattle.analysis.specs.Findings.{findings-of};
+ghost use Rattle.analysis.specs.Inside.Steps.{numbers-of};
 ghost use Rattle.analysis.specs.declared.Outcome.the-variants.{Missed};
+use crate::Finding;
 use crate::Outcome;
-use crate::Row;
 use order::Blocker;
 use order::Ordered;
 
@@ -30,15 +30,15 @@ fn missed(o: Ordered, p: usize) -> Outcome
 }
 
 // The set holds if all tasks pass.
-pub fn verdict_of(o: Ordered, rows: [Row; 16]) -> Outcome
-    requires { ⌜ rows ≡ rows-of (tasks-in-order o) ⌝ }
+pub fn verdict_of(o: Ordered, findings: [Finding; 16]) -> Outcome
+    requires { ⌜ findings ≡ findings-of (numbers-of o) (tasks-in-order o) ⌝ }
     ensures { λ r. ⌜ r ≡ verdict-number (numbers-of o) (verdict (tasks-in-order o)) ⌝ }
 {
     let tasks = o.tasks;
     let count = sheet::tasks_in(o.count, tasks);
     for p in 0..count {
-        let row = rows[p];
-        if !row.passes {
+        let f = findings[p];
+        if !f.passes {
             return missed(o, p);
         }
     }

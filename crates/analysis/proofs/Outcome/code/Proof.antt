@@ -1,7 +1,7 @@
 -- `Outcome::code` meets its contract.
 use mathlib.Core.Path.{sym, ap, _∙_}
 use Prim.Native.Nat.{ℕ, _+_, _*_}
-use Rattle.analysis.specs.Answers.{code}
+use Rattle.analysis.specs.Answers.{first-miss, blockers, code}
 use borrow.Author.Needs.{needs}
 use Rattle.analysis.proofs.Outcome.code.Statement.{statement}
 use Rattle.analysis.proofs.Outcome.code.Tie as tie
@@ -28,6 +28,9 @@ add-result c = search needs
 blocker-code-requires : tie.Need-blocker-code-requires
 blocker-code-requires c κs = search needs
 
+cast-result-2 : tie.Need-cast-result-2
+cast-result-2 c = search needs
+
 add-result-2 : tie.Need-add-result-2
 add-result-2 c = search needs
 
@@ -37,15 +40,15 @@ enum-known-self-2 c = search needs
 number-requires : tie.Need-number-requires
 number-requires c κs = search needs
 
-cast-result-2 : tie.Need-cast-result-2
-cast-result-2 c = search needs
+cast-result-3 : tie.Need-cast-result-3
+cast-result-3 c = search needs
 
 returns : tie.Need-returns
 returns c = search needs
 
 returns-2 : tie.Need-returns-2
 returns-2 c =
-    ap (λ (b : ℕ). 100 + 17 * c .before .before .self .given .0 .0 + b) (c .blocker-code .ensures .0)
+    ap (λ (b : ℕ). first-miss + blockers * c .before .before .self .given .0 .0 + b) (c .blocker-code .ensures)
     ∙ ap code (sym (c .before .before .self .given .1))
 
 returns-3 : tie.Need-returns-3
@@ -61,10 +64,11 @@ code-spec =
     mul-result
     add-result
     blocker-code-requires
+    cast-result-2
     add-result-2
     enum-known-self-2
     number-requires
-    cast-result-2
+    cast-result-3
     returns
     returns-2
     returns-3)

@@ -3,16 +3,17 @@ use mathlib.Core.Path.{sym, _∙_}
 use Prim.Native.Nat.{_≤_}
 use native.Mathlib.Omega.{arith}
 use lib.ListN.{length, length-map}
+use Rattle.sheet.specs.Constants.{most-tasks}
 use Rattle.order.specs.Ordered.{tasks-in-order}
-use Rattle.analysis.proofs.PlaceOf.{tasks-room}
+use Rattle.analysis.proofs.InUse.{tasks-room}
 use Rattle.analysis.proofs.Missed.{blocker-below, missed-by, missed-alone}
 use borrow.Author.Needs.{needs}
 use Rattle.analysis.proofs.verdict.missed.Statement.{statement}
 use Rattle.analysis.proofs.verdict.missed.Tie as tie
 
 -- the records stand in an array of sixteen
-room : (c : tie.Start) → length (tasks-in-order (c .args .o)) ≤ 16
-room c = tasks-room (c .args .o) 16 (sym (length-map (c .args .o .tasks) _) ∙ c .good .0 .1 .1 .1 .1 .0 .1 .0 .1)
+room : (c : tie.Start) → length (tasks-in-order (c .args .o)) ≤ most-tasks
+room c = tasks-room (c .args .o) most-tasks (sym (length-map (c .args .o .tasks) _) ∙ c .good .0 .1 .1 .1 .1 .0 .1 .0 .1)
 
 mul-number : tie.Need-mul-number
 mul-number c = omega (arith, room (c .before), c .before .pre)

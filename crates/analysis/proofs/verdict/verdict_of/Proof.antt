@@ -3,7 +3,8 @@ use mathlib.Core.Path.{_≡_, _∙_}
 use lib.ListN.{length}
 use Prim.Native.Nat.{_≤_, _-_}
 use native.Mathlib.Omega.{arith}
-use Rattle.analysis.proofs.PlaceOf.{tasks-count}
+use Rattle.sheet.specs.Constants.{most-tasks}
+use Rattle.analysis.proofs.InUse.{tasks-count}
 use Rattle.order.specs.Ordered.{tasks-in-order}
 use borrow.Author.Needs.{needs}
 use Rattle.analysis.proofs.Passed.{Passed, none-passed, says-no, says-yes, one-passed, all-passed, first-missed}
@@ -11,13 +12,13 @@ use Rattle.analysis.proofs.verdict.verdict_of.Statement.{statement}
 use Rattle.analysis.proofs.verdict.verdict_of.Tie as tie
 
 abbrev Inv-loop : tie.InvT-loop
-Inv-loop o rows count p₀ p = (p ≤ count) × (count ≤ 16) × Passed (tasks-in-order o) p
+Inv-loop o findings count p₀ p = (p ≤ count) × (count ≤ most-tasks) × Passed (tasks-in-order o) p
 
 abbrev μ-loop : tie.MeasureT-loop
-μ-loop o rows count p₀ p = count - p
+μ-loop o findings count p₀ p = count - p
 
 in-use : (c : tie.After-tasks-in Inv-loop μ-loop) → length (tasks-in-order (c .before .before .args .o)) ≡ c .tasks-in .result
-in-use c = tasks-count _ _ (c .tasks-in .ensures .0) (c .tasks-in .ensures .1)
+in-use c = tasks-count _ _ (c .tasks-in .ensures)
 
 tasks-in-requires : tie.Need-tasks-in-requires Inv-loop μ-loop
 tasks-in-requires c κs = search needs
@@ -25,11 +26,11 @@ tasks-in-requires c κs = search needs
 loop-holds : tie.Need-loop-holds Inv-loop μ-loop
 loop-holds c = (search needs, omega arith, none-passed _)
 
-mul-row : tie.Need-mul-row Inv-loop μ-loop
-mul-row c = search needs
+mul-f : tie.Need-mul-f Inv-loop μ-loop
+mul-f c = search needs
 
-array-copy-out-row : tie.Need-array-copy-out-row Inv-loop μ-loop
-array-copy-out-row c = search needs
+array-copy-out-f : tie.Need-array-copy-out-f Inv-loop μ-loop
+array-copy-out-f c = search needs
 
 missed-requires : tie.Need-missed-requires Inv-loop μ-loop
 missed-requires c κs = omega (arith, in-use (c .before .before .before .before .before))
@@ -37,7 +38,7 @@ missed-requires c κs = omega (arith, in-use (c .before .before .before .before 
 returns : tie.Need-returns Inv-loop μ-loop
 returns c =
     let h = in-use (c .before .before .before .before .before .before) in
-    let here = says-no _ _ _ (c .before .before .before .before .before .before .before .before .pre) (omega arith) (c .before .if1 .taken) in
+    let here = says-no _ _ _ _ (c .before .before .before .before .before .before .before .before .pre) (omega arith) (c .before .if1 .taken) in
     c .missed .ensures ∙ first-missed _ _ _ (c .before .before .before .before .before .loop .inv .2) (omega arith) here
 
 add-p : tie.Need-add-p Inv-loop μ-loop
@@ -49,7 +50,7 @@ loop-less c = search needs
 loop-again : tie.Need-loop-again Inv-loop μ-loop
 loop-again c =
     let h = in-use (c .before .before .before .before .before) in
-    let here = says-yes _ _ _ (c .before .before .before .before .before .before .before .pre) (omega arith) (c .if1 .left) in
+    let here = says-yes _ _ _ _ (c .before .before .before .before .before .before .before .pre) (omega arith) (c .if1 .left) in
     (search needs, search needs, one-passed _ _ (c .before .before .before .before .loop .inv .2) here)
 
 returns-2 : tie.Need-returns-2 Inv-loop μ-loop
@@ -65,8 +66,8 @@ verdict-of-spec =
     μ-loop
     tasks-in-requires
     loop-holds
-    mul-row
-    array-copy-out-row
+    mul-f
+    array-copy-out-f
     missed-requires
     returns
     add-p

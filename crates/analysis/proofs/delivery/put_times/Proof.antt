@@ -1,19 +1,20 @@
--- `put_eight` meets its contract: after k turns the first k of the eight stand.
+-- `put_times` meets its contract: after k turns the first k of the times stand.
 use mathlib.Core.Path.{_≡_, ap, _∙_}
 use Prim.Native.Nat.{_+_, _≤_, _-_}
 use native.Mathlib.Omega.{arith}
 use lib.ListN.{length}
+use Rattle.analysis.proofs.ByNumber.{put, none-put, length-put, put-more, all-put}
+use Rattle.sheet.specs.Constants.{most-frames}
 use borrow.Author.Needs.{needs}
-use Rattle.analysis.proofs.Eights.{put, none-put, length-put, put-more, all-put}
-use Rattle.analysis.proofs.places.put_eight.Statement.{statement}
-use Rattle.analysis.proofs.places.put_eight.Tie as tie
+use Rattle.analysis.proofs.delivery.put_times.Statement.{statement}
+use Rattle.analysis.proofs.delivery.put_times.Tie as tie
 
 abbrev Inv-loop : tie.InvT-loop
 Inv-loop times₀ at row k₀ times k =
-    (k ≤ 8) × (length row ≡ 8) × (at + 8 ≤ length times₀) × (times ≡ put times₀ at row k)
+    (k ≤ most-frames) × (length row ≡ most-frames) × (at + most-frames ≤ length times₀) × (times ≡ put times₀ at row k)
 
 abbrev μ-loop : tie.MeasureT-loop
-μ-loop times₀ at row k₀ times k = 8 - k
+μ-loop times₀ at row k₀ times k = most-frames - k
 
 loop-holds : tie.Need-loop-holds Inv-loop μ-loop
 loop-holds c = (search needs, search needs, c .pre, none-put _ _ _)
@@ -33,7 +34,7 @@ mul-times-2 c = search needs
 slice-write-times : tie.Need-slice-write-times Inv-loop μ-loop
 slice-write-times c =
     let inv = c .before .loop .inv in
-    omega (arith, ap length (inv .3) ∙ length-put _ _ _ (inv .2) (inv .1) _ (inv .0))
+    omega (arith, ap length (inv .3) ∙ length-put _ _ _ most-frames (inv .2) (inv .1) _ (inv .0))
 
 add-k : tie.Need-add-k Inv-loop μ-loop
 add-k c = search needs
@@ -44,20 +45,20 @@ loop-less c = search needs
 loop-again : tie.Need-loop-again Inv-loop μ-loop
 loop-again c =
     let inv = c .before .loop .inv in
-    (search needs, inv .1, inv .2, rw (inv .3) (put-more _ _ _ (inv .2) (inv .1) _ (omega arith)))
+    (search needs, inv .1, inv .2, rw (inv .3) (put-more _ _ _ most-frames (inv .2) (inv .1) _ 0 (omega arith)))
 
 same-length : tie.Need-same-length Inv-loop μ-loop
 same-length c =
     let inv = c .before .loop .inv in
-    ap length (inv .3) ∙ length-put _ _ _ (inv .2) (inv .1) _ (inv .0)
+    ap length (inv .3) ∙ length-put _ _ _ most-frames (inv .2) (inv .1) _ (inv .0)
 
 returns : tie.Need-returns Inv-loop μ-loop
 returns c =
     let inv = c .before .loop .inv in
-    inv .3 ∙ all-put _ _ _ (inv .2) (inv .1) _ (omega arith)
+    (inv .1, inv .3 ∙ all-put _ _ _ most-frames (inv .2) (inv .1) _ (omega arith))
 
-pub put-eight-spec : {M : Type 1} → statement M
-put-eight-spec =
+pub put-times-spec : {M : Type 1} → statement M
+put-times-spec =
     tie.close
     (tie.spec
     Inv-loop

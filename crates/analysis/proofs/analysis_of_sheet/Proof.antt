@@ -1,4 +1,4 @@
--- `analyse_bytes` meets its contract.
+-- `analysis_of_sheet` meets its contract.
 use mathlib.Core.Path.{sym, ap, _∙_}
 use Rattle.sheet.proofs.RoundTrip.{admitted-reading-admits}
 use Rattle.analysis.proofs.Entries.{sheet-admitted, sheet-refused}
@@ -8,10 +8,10 @@ use Rattle.sheet.specs.declared.Reading.{Reading}
 use Rattle.sheet.specs.declared.Answer.the-variants.{Admitted}
 use Rattle.analysis.specs.Answers.{analysis-by}
 use borrow.Author.Needs.{needs}
-use Rattle.analysis.proofs.analyse_bytes.Statement.{statement}
-use Rattle.analysis.proofs.analyse_bytes.Tie as tie
-use Rattle.analysis.proofs.analyse_bytes.Reads as reads
-use Rattle.analysis.proofs.analyse_bytes.Lts as lts
+use Rattle.analysis.proofs.analysis_of_sheet.Statement.{statement}
+use Rattle.analysis.proofs.analysis_of_sheet.Tie as tie
+use Rattle.analysis.proofs.analysis_of_sheet.Reads as reads
+use Rattle.analysis.proofs.analysis_of_sheet.Lts as lts
 use Rattle.analysis.proofs.analysed.Reads as analysed-reads
 use Rattle.analysis.proofs.refused.Reads as refused-reads
 use Rattle.reader.proofs.read_sheet.Reads as read-sheet-reads
@@ -36,7 +36,7 @@ refused-requires c κs = search needs
 returns : tie.Need-returns
 returns c =
     let e = c .before .before .before .before .read-sheet .ensures in
-    c .analysed .ensures
+    c .analysed .ensures .0
     ∙ ap (λ (r : Reading). analysis-by Admitted (r .set .policy) (map task-in (records-of (r .set)))) e
     ∙ sheet-admitted _ (ap (λ (r : Reading). r .answer) (sym e) ∙ c .before .enum-told .given .1)
 
@@ -45,8 +45,8 @@ returns-2 c =
     let e = c .before .before .before .before .before .read-sheet .ensures in
     c .refused .ensures ∙ sheet-refused _ _ (ap (λ (r : Reading). r .answer) (sym e) ∙ c .before .before .answer .given .1)
 
-pub analyse-bytes-spec : {M : Type 1} → statement M
-analyse-bytes-spec =
+pub analysis-of-sheet-spec : {M : Type 1} → statement M
+analysis-of-sheet-spec =
     tie.close
     (tie.spec
     read-sheet-requires

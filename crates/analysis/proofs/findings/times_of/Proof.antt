@@ -4,31 +4,34 @@ use Prim.Native.Nat.{ℕ, _≤_, _<_, _-_, _+_}
 use mathlib.Core.Logic.{⊎-elim}
 use native.Mathlib.Omega.{arith}
 use lib.ListN.{length, getD, take}
+use Rattle.theory.specs.Tasks.{shortest-deadline}
+use Rattle.sheet.specs.Constants.{most-frames}
+use Rattle.sheet.specs.Tasks.{task-in}
 use Rattle.response.specs.Response.{response-to}
-use Rattle.analysis.specs.Rows.{as-written}
+use Rattle.analysis.specs.Inside.Steps.{as-written}
 use Rattle.analysis.proofs.Filled.{filled, none-filled}
-use Rattle.analysis.proofs.Rows.{times-in, up-to-more, up-to-length, up-to-all, places-to}
+use Rattle.analysis.proofs.ByPlace.{times-in, one-deadline, up-to-more, up-to-length, up-to-all, places-to}
 use borrow.Author.Needs.{needs}
-use Rattle.analysis.proofs.passing.times_of.Statement.{statement}
-use Rattle.analysis.proofs.passing.times_of.Tie as tie
-use Rattle.analysis.proofs.passing.times_of.Reads as reads
-use Rattle.analysis.proofs.passing.times_of.Lts as lts
-use Rattle.analysis.proofs.passing.written.Reads as written-reads
+use Rattle.analysis.proofs.findings.times_of.Statement.{statement}
+use Rattle.analysis.proofs.findings.times_of.Tie as tie
+use Rattle.analysis.proofs.findings.times_of.Reads as reads
+use Rattle.analysis.proofs.findings.times_of.Lts as lts
+use Rattle.analysis.proofs.findings.written.Reads as written-reads
 use Rattle.response.proofs.respond.Reads as respond-reads
 use Rattle.sheet.proofs.frames_in.Reads as frames-in-reads
 
 abbrev Inv-loop : tie.InvT-loop
-Inv-loop above blocked largest known deadline frames count times₀ k₀ times k =
-    (k ≤ count) × (count ≤ 8) × (length frames ≡ 8) × (times ≡ filled 8 0 (times-in above blocked deadline (take count frames)) k)
+Inv-loop above blocked task largest known frames count times₀ k₀ times k =
+    (k ≤ count) × (count ≤ most-frames) × (length frames ≡ most-frames) × (times ≡ filled most-frames 0 (times-in above blocked (shortest-deadline (task-in task)) (take count frames)) k)
 
 abbrev μ-loop : tie.MeasureT-loop
-μ-loop above blocked largest known deadline frames count times₀ k₀ times k = count - k
+μ-loop above blocked task largest known frames count times₀ k₀ times k = count - k
 
 frames-in-requires : tie.Need-frames-in-requires Inv-loop μ-loop
 frames-in-requires c κs = search needs
 
 loop-holds : tie.Need-loop-holds Inv-loop μ-loop
-loop-holds c = (search needs, omega arith, c .frames-in .ensures .1, none-filled 8 0 _)
+loop-holds c = (search needs, omega arith, c .frames-in .ensures .1, none-filled most-frames 0 _)
 
 mul-c : tie.Need-mul-c Inv-loop μ-loop
 mul-c c = search needs
@@ -41,6 +44,9 @@ mul-times c = search needs
 
 array-write-times : tie.Need-array-write-times Inv-loop μ-loop
 array-write-times c = search needs
+
+deadline-of-requires : tie.Need-deadline-of-requires Inv-loop μ-loop
+deadline-of-requires c κs = search needs
 
 respond-requires : tie.Need-respond-requires Inv-loop μ-loop
 respond-requires c κs = search needs
@@ -65,17 +71,17 @@ loop-again c =
     let a = c .before .before .before .before .before .args in
     let n = c .before .before .before .frames-in .result in
     let k = c .before .before .loop .k in
-    let small : n ≤ 8 = omega arith in
+    let small : n ≤ most-frames = omega arith in
     let inside : k < n = omega arith in
     let room = c .before .before .loop .inv .2 in
     let so-far = c .before .before .loop .inv .3 in
-    let more = up-to-more (a .above) (a .blocked) (a .task .deadline) n (a .task .frames) small room (c .before .before .loop .times) k in (
+    let more = up-to-more (a .above) (a .blocked) (shortest-deadline (task-in (a .task))) n (a .task .frames) small room (c .before .before .loop .times) k in (
       search needs,
       small,
       room,
       ⊎-elim
-          (λ w. w .1 ∙ more (a .known) inside so-far (c .before .before .before .before .before .pre ∙ ap (λ (x : ℕ). as-written (response-to (a .above) (a .blocked) x (a .task .deadline))) (sym (w .0 .taken))))
-          (λ w. w .3 ∙ more _ inside so-far (w .2 .ensures ∙ ap as-written (w .1 .ensures)))
+          (λ w. w .1 ∙ more (a .known) inside so-far (c .before .before .before .before .before .pre ∙ ap (λ (x : ℕ). as-written (response-to (a .above) (a .blocked) x (shortest-deadline (task-in (a .task))))) (sym (w .0 .taken))))
+          (λ w. w .4 ∙ more _ inside so-far (w .3 .ensures ∙ ap as-written (w .2 .ensures ∙ ap (response-to (a .above) (a .blocked) _) (w .1 .ensures ∙ one-deadline (task-in (a .task)) k))))
           (c .if1 .came),
     )
 
@@ -83,12 +89,12 @@ returns : tie.Need-returns Inv-loop μ-loop
 returns c =
     let a = c .before .before .before .before .args in
     let n = c .before .before .frames-in .result in
-    let small : n ≤ 8 = omega arith in
+    let small : n ≤ most-frames = omega arith in
     let done : n ≡ c .before .loop .k = omega arith in
     let room = c .before .loop .inv .2 in
     c .before .loop .inv .3
-    ∙ up-to-all (a .above) (a .blocked) (a .task .deadline) n (a .task .frames) small room (c .before .loop .k) done
-    ∙ places-to (a .above) (a .blocked) (a .task) n (c .before .before .frames-in .ensures .0) room
+    ∙ up-to-all (a .above) (a .blocked) (shortest-deadline (task-in (a .task))) n (a .task .frames) small room (c .before .loop .k) done
+    ∙ places-to (a .above) (a .blocked) (a .task) n (c .before .before .frames-in .ensures)
 
 pub times-of-spec : {M : Type 1} → statement M
 times-of-spec =
@@ -102,6 +108,7 @@ times-of-spec =
     array-read-c
     mul-times
     array-write-times
+    deadline-of-requires
     respond-requires
     written-requires
     mul-times-2

@@ -1,11 +1,11 @@
--- `analyse` meets its contract.
+-- `analysis_of_set` meets its contract.
 use mathlib.Core.Path.{sym, _∙_}
 use Rattle.analysis.proofs.Entries.{set-admitted, set-refused}
 use borrow.Author.Needs.{needs}
-use Rattle.analysis.proofs.analyse.Statement.{statement}
-use Rattle.analysis.proofs.analyse.Tie as tie
-use Rattle.analysis.proofs.analyse.Reads as reads
-use Rattle.analysis.proofs.analyse.Lts as lts
+use Rattle.analysis.proofs.analysis_of_set.Statement.{statement}
+use Rattle.analysis.proofs.analysis_of_set.Tie as tie
+use Rattle.analysis.proofs.analysis_of_set.Reads as reads
+use Rattle.analysis.proofs.analysis_of_set.Lts as lts
 use Rattle.admission.proofs.admit.Reads as admit-reads
 use Rattle.analysis.proofs.analysed.Reads as analysed-reads
 use Rattle.analysis.proofs.refused.Reads as refused-reads
@@ -26,13 +26,13 @@ refused-requires : tie.Need-refused-requires
 refused-requires c κs = search needs
 
 returns : tie.Need-returns
-returns c = c .analysed .ensures ∙ set-admitted _ (sym (c .before .before .before .admit .ensures) ∙ c .before .enum-told .given .1)
+returns c = c .analysed .ensures .0 ∙ set-admitted _ (sym (c .before .before .before .admit .ensures) ∙ c .before .enum-told .given .1)
 
 returns-2 : tie.Need-returns-2
 returns-2 c = c .refused .ensures ∙ set-refused _ _ (sym (c .before .before .before .before .admit .ensures) ∙ c .before .before .refusal .given .1)
 
-pub analyse-spec : {M : Type 1} → statement M
-analyse-spec =
+pub analysis-of-set-spec : {M : Type 1} → statement M
+analysis-of-set-spec =
     tie.close
     (tie.spec
     admit-requires

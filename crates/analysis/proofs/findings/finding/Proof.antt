@@ -1,0 +1,24 @@
+-- `finding` meets its contract.
+use mathlib.Core.Path.{_≡_, refl}
+use Rattle.sheet.specs.Tasks.{task-in}
+use Rattle.analysis.specs.Inside.Steps.{finding-with}
+use Rattle.analysis.proofs.ByPlace.{frames-counted}
+use borrow.Author.Needs.{needs}
+use Rattle.analysis.proofs.findings.finding.Statement.{statement}
+use Rattle.analysis.proofs.findings.finding.Tie as tie
+
+frames-in-requires : tie.Need-frames-in-requires
+frames-in-requires c κs = search needs
+
+shortest-deadline-requires : tie.Need-shortest-deadline-requires
+shortest-deadline-requires c κs = search needs
+
+cast-t9 : tie.Need-cast-t9
+cast-t9 c = search needs
+
+returns : tie.Need-returns
+unfolding finding-with task-in
+returns c = rw (c .shortest-deadline .ensures, ← frames-counted (c .before .before .before .args .task) _ (c .before .frames-in .ensures)) refl
+
+pub finding-spec : {M : Type 1} → statement M
+finding-spec = tie.close (tie.spec frames-in-requires shortest-deadline-requires cast-t9 returns)

@@ -1,0 +1,80 @@
+-- `finding_of` meets its contract.
+use mathlib.Core.Bool.{true}
+use mathlib.Core.List.{List}
+use mathlib.Core.Path.{_≡_, sym, ap, _∙_}
+use Prim.Native.Nat.{ℕ}
+use Rattle.theory.specs.Tasks.{shortest-deadline}
+use Rattle.sheet.specs.Tasks.{task-in}
+use Rattle.response.specs.Response.{response-to}
+use Rattle.analysis.specs.Inside.Steps.{as-written, finding-with}
+use Rattle.analysis.proofs.ByPlace.{finding-there, finding-never}
+use borrow.Author.Needs.{needs}
+use Rattle.analysis.proofs.findings.finding_of.Statement.{statement}
+use Rattle.analysis.proofs.findings.finding_of.Tie as tie
+
+largest-time-requires : tie.Need-largest-time-requires
+largest-time-requires c κs = search needs
+
+shortest-deadline-requires : tie.Need-shortest-deadline-requires
+shortest-deadline-requires c κs = search needs
+
+respond-requires : tie.Need-respond-requires
+respond-requires c κs = search needs
+
+enum-known-t : tie.Need-enum-known-t
+enum-known-t c = search needs
+
+-- what `respond` answers, by the definitions
+answer : (c : tie.After-respond)
+    → let a = c .before .before .before .args in
+    c .respond .result ≡ response-to (a .above) (a .blocked) (c .before .before .largest-time .result) (shortest-deadline (task-in (a .task)))
+answer c =
+    let a = c .before .before .before .args in
+    c .respond .ensures ∙ ap (response-to (a .above) (a .blocked) (c .before .before .largest-time .result)) (c .before .shortest-deadline .ensures)
+
+times-of-requires : tie.Need-times-of-requires
+times-of-requires c κs = ap as-written (sym (c .before .t .given .1) ∙ answer (c .before .before .before))
+
+finding-requires : tie.Need-finding-requires
+finding-requires c κs = search needs
+
+enum-told : tie.Need-enum-told
+enum-told c = search needs
+
+finding-requires-2 : tie.Need-finding-requires-2
+finding-requires-2 c κs = search needs
+
+returns : tie.Need-returns
+returns c =
+    let k = c .before .before in
+    let r = k .before .before .before in
+    let a = r .before .before .before .args in
+    c .finding .ensures
+    ∙ ap (λ (ts : List ℕ). finding-with (a .number) (a .blocked) (task-in (a .task)) true ts) (c .before .times-of .ensures)
+    ∙ sym (finding-there (a .above) (a .number) (a .blocked) (a .task) _
+    (ap (λ (x : ℕ). response-to (a .above) (a .blocked) x (shortest-deadline (task-in (a .task)))) (sym (r .before .before .largest-time .ensures))
+    ∙ sym (answer r) ∙ k .before .t .given .1))
+
+returns-2 : tie.Need-returns-2
+returns-2 c =
+    let r = c .before .before .before in
+    let a = r .before .before .before .args in
+    c .finding2 .ensures
+    ∙ sym (finding-never (a .above) (a .number) (a .blocked) (a .task)
+    (ap (λ (x : ℕ). response-to (a .above) (a .blocked) x (shortest-deadline (task-in (a .task)))) (sym (r .before .before .largest-time .ensures))
+    ∙ sym (answer r) ∙ c .before .enum-told .given .1))
+
+pub finding-of-spec : {M : Type 1} → statement M
+finding-of-spec =
+    tie.close
+    (tie.spec
+    largest-time-requires
+    shortest-deadline-requires
+    respond-requires
+    enum-known-t
+    times-of-requires
+    finding-requires
+    enum-told
+    finding-requires-2
+    returns
+    returns-2)

@@ -1,0 +1,58 @@
+-- What the steps over an ordered set hand on: a finding by the tasks above and the blocking.
+use mathlib.Core.Bool.{Bool, true, false}
+use mathlib.Core.List.{List, map}
+use Prim.Native.Nat.{ℕ, _≤_, _<_}
+use lib.ListN.{length, take}
+use Rattle.theory.specs.Tasks.{Task, task-at, frame-count, largest, shortest-deadline}
+use Rattle.sheet.specs.Tasks.{task-in}
+use Rattle.sheet.specs.declared.Task.{Task as Record}
+use Rattle.order.specs.declared.Ordered.{Ordered}
+use Rattle.response.specs.Response.{response-to}
+use Rattle.response.specs.declared.Response.{Response}
+use Rattle.response.specs.declared.Response.the-variants.{At, Never}
+use Rattle.response.specs.declared.Above.{Above}
+use Rattle.analysis.specs.Times.{places-by}
+use Rattle.analysis.specs.declared.Finding.{Finding}
+
+-- each task has a frame
+pub record HasFrames (set : List Task) : Type 0 where
+  pub framed : (p : ℕ) → p < length set → 1 ≤ frame-count (task-at set p)
+
+-- the task numbers of an ordered set, in priority order
+unfoldable pub numbers-of : Ordered → List ℕ
+numbers-of o = take (o .count) (o .numbers)
+
+-- a response as it is written: 0 where there is none
+abbrev pub as-written : Response → ℕ
+as-written (At t) = t
+as-written Never = 0
+
+abbrev pub is-there : Response → Bool
+is-there (At t) = true
+is-there Never = false
+
+-- the times of a task's frames, by the tasks above it and its blocking
+unfoldable pub times-to : Above → ℕ → Record → List ℕ
+times-to above blocked r =
+    let t = task-in r in
+    map (λ c. as-written (response-to above blocked c (shortest-deadline t))) (t .frames)
+
+-- what is found of a task, from whether it passes and its eight times
+unfoldable pub finding-with : ℕ → ℕ → Task → Bool → List ℕ → Finding
+finding-with number blocked t passes times =
+    record {
+      number = number;
+      period = t .period;
+      deadline = shortest-deadline t;
+      «frame_count» = frame-count t;
+      blocked = blocked;
+      passes = passes;
+      times = times;
+    }
+
+-- .. by the tasks above it and its blocking
+unfoldable pub finding-to : Above → ℕ → ℕ → Record → Finding
+finding-to above number blocked r =
+    let t = task-in r in
+    let pass = is-there (response-to above blocked (largest (t .frames)) (shortest-deadline t)) in
+    finding-with number blocked t pass (places-by pass (times-to above blocked r))

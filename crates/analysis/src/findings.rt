@@ -1,0 +1,123 @@
+// What is found of each task of an ordered set, place by place.
+ghost use mathlib.Core.Path.{_≡_};
+ghost use mathlib.Core.Bool.{true};
+ghost use Rattle.theory.specs.Tasks.{start-frame, shortest-deadline};
+ghost use Rattle.sheet.specs.Tasks.{task-in};
+ghost use Rattle.order.specs.Ordered.{tasks-in-order};
+ghost use Rattle.response.specs.Response.{response-to};
+ghost use Rattle.analysis.specs.Times.{places-by};
+ghost use Rattle.analysis.specs.Findings.{findings-of};
+ghost use Rattle.analysis.specs.Inside.Steps.{HasFrames, numbers-of, as-written, times-to, finding-with, finding-to};
+use crate::Finding;
+use admission::Start;
+use order::Ordered;
+use response::Above;
+use response::Higher;
+use response::Response;
+use sheet::Task;
+
+// The start frame; 0 where there is none.
+fn start_of(task: Task) -> u32
+    ensures { λ r. ⌜ r ≡ start-frame (task-in task) ⌝ }
+{
+    match admission::start_frame(task) {
+        Start::At(s) => s,
+        Start::Nowhere => 0,
+    }
+}
+
+// A response time as it is written: 0 where there is none.
+fn written(r: Response) -> u32
+    ensures { λ t. ⌜ t ≡ as-written r ⌝ }
+{
+    match r {
+        Response::At(t) => t,
+        Response::Never => 0,
+    }
+}
+
+// The response times of a task, in eight places; those of its largest frames are known.
+fn times_of(above: Above, blocked: u32, task: Task, largest: u32, known: u32) -> [u32; 8]
+    requires { ⌜ known ≡ as-written (response-to above blocked largest (shortest-deadline (task-in task))) ⌝ }
+    ensures { λ r. ⌜ r ≡ places-by true (times-to above blocked task) ⌝ }
+{
+    let frames = task.frames;
+    let count = sheet::frames_in(task.frame_count, frames);
+    let mut times = [0; 8];
+    for k in 0..count {
+        let c = frames[k];
+        if c == largest {
+            times[k] = known;
+        } else {
+            let d = sheet::deadline_of(task, k);
+            let t = written(response::respond(above, blocked, c, d));
+            times[k] = t;
+        }
+    }
+    times
+}
+
+// What is found of a task, from whether it passes and its times.
+fn finding(number: u32, blocked: u32, task: Task, passes: bool, times: [u32; 8]) -> Finding
+    ensures { λ r. ⌜ r ≡ finding-with number blocked (task-in task) passes times ⌝ }
+{
+    let frames = task.frames;
+    let count = sheet::frames_in(task.frame_count, frames);
+    Finding {
+        number,
+        period: task.period,
+        deadline: sheet::shortest_deadline(task),
+        frame_count: count as u32,
+        blocked,
+        passes,
+        times,
+    }
+}
+
+// A task passes if its largest frame has a response time.
+fn finding_of(above: Above, number: u32, blocked: u32, task: Task) -> Finding
+    ensures { λ r. ⌜ r ≡ finding-to above number blocked task ⌝ }
+{
+    let largest = admission::largest_time(task);
+    match response::respond(above, blocked, largest, sheet::shortest_deadline(task)) {
+        Response::At(t) => finding(
+            number,
+            blocked,
+            task,
+            true,
+            times_of(above, blocked, task, largest, t),
+        ),
+        Response::Never => finding(number, blocked, task, false, [0; 8]),
+    }
+}
+
+// What is found of all places; the tasks above grow from place to place.
+pub fn findings_of(o: Ordered) -> [Finding; 16]
+    requires { ⌜ HasFrames (tasks-in-order o) ⌝ }
+    ensures { λ r. ⌜ r ≡ findings-of (numbers-of o) (tasks-in-order o) ⌝ }
+{
+    let tasks = o.tasks;
+    let numbers = o.numbers;
+    let count = sheet::tasks_in(o.count, tasks);
+    let mut findings = [Finding::blank(); 16];
+    let nobody = Higher {
+        start: 0,
+        task: Task::blank(),
+    };
+    let mut above = Above {
+        count: 0,
+        tasks: [nobody; 16],
+    };
+    for p in 0..count {
+        let task = tasks[p];
+        let f = finding_of(above, numbers[p], order::blocking(o, p as u32), task);
+        findings[p] = f;
+        let h = Higher {
+            start: start_of(task),
+            task,
+        };
+        above.tasks[p] = h;
+        above.count = p as u32 + 1;
+    }
+    findings
+}
