@@ -20,6 +20,10 @@ use Rattle.analysis.specs.declared.Finding.{Finding}
 use Rattle.analysis.proofs.ByNumber.{Stands, none-stands, stands-more, all-stand, turn-length}
 use Rattle.analysis.proofs.Numbering.{place-in, number-back, number-in}
 
+-- after p places their times stand at their numbers
+abbrev pub AtNumbers : Analysis → List ℕ → List ℕ → ℕ → Type 0
+AtNumbers a = Stands 0 most-frames (a .«task_count») (λ p. found a p .number) (λ p. found a p .times)
+
 module _ (a : Analysis) (h : Numbered a) where
   abbrev n : ℕ
   n = a .«task_count»
@@ -49,23 +53,18 @@ module _ (a : Analysis) (h : Numbered a) where
   unfolding times-by-number
   by-number-length = turn-length (λ i. found a (place-found i) .times) most-frames 0 n (λ i l. h .eight (place-found i) (place-found-in i (omega arith)))
 
-  -- ---- after p places
-
-  abbrev pub Put : List ℕ → List ℕ → ℕ → Type 0
-  Put = Stands 0 most-frames n (λ p. found a p .number) (λ p. found a p .times)
-
   pub no-room : (room : List ℕ) → length room < most-frames * n → (Refused Room ≡ delivered-outcome a room) × (room ≡ delivered a room)
   unfolding delivered-outcome delivered delivering
   no-room room l = turned-tells Room Refused (delivering a) room (by-room Room Refused (delivering a) room no-check (rw by-number-length l))
 
   module _ (room : List ℕ) (enough : most-frames * n ≤ length room) where
-    pub put-more : (now : List ℕ) (p : ℕ) → p < n → Put room now p
-        → Put room (take (most-frames * found a p .number) now ++ found a p .times ++ drop (most-frames * found a p .number + most-frames) now) (p + 1)
-    put-more now p l s = stands-more 0 most-frames n (λ p. found a p .number) (λ p. found a p .times) number-below numbers-apart (h .eight) room enough now p l s
+    pub numbers-more : (now : List ℕ) (p : ℕ) → p < n → AtNumbers a room now p
+        → AtNumbers a room (take (most-frames * found a p .number) now ++ found a p .times ++ drop (most-frames * found a p .number + most-frames) now) (p + 1)
+    numbers-more now p l s = stands-more 0 most-frames n (λ p. found a p .number) (λ p. found a p .times) number-below numbers-apart (h .eight) room enough now p l s
 
-    pub all-put : (now : List ℕ) → Put room now n → (a .outcome ≡ delivered-outcome a room) × (now ≡ delivered a room)
+    pub all-numbers : (now : List ℕ) → AtNumbers a room now n → (a .outcome ≡ delivered-outcome a room) × (now ≡ delivered a room)
     unfolding delivered-outcome delivered delivering laid times-by-number
-    all-put now s =
+    all-numbers now s =
         let d = done-tells Room Refused (delivering a) room (done Room Refused (delivering a) room no-check (rw by-number-length enough)) in (
           d .0,
           all-stand 0 most-frames n (λ p. found a p .number) (λ p. found a p .times) number-below numbers-apart (h .eight) room enough
