@@ -93,7 +93,7 @@ module _ (policy : ℕ) (tasks : List Task) where
       ap (map (λ f. f .number)) (take-at (findings-from order set 0 (length set)) _ (length tasks) (length-findings order set 0 (length set) ∙ ordered-length policy tasks))
       ∙ numbers-from 0 (length set) (omega (arith, ordered-length policy tasks, order-length policy tasks))
 
-  found-at : (p : ℕ) → p < length tasks → found analysis p ≡ finding-at order set p
+  pub found-at : (p : ℕ) → p < length tasks → found analysis p ≡ finding-at order set p
   unfolding analysis-by
   found-at p h = finding-is order set p past-end (rw (ordered-length policy tasks) h)
 

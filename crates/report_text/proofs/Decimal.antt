@@ -9,7 +9,7 @@ use lib.Dec.{lit<}
 use lib.ListN.{length, length-append}
 use native.Mathlib.Nat.{pow-suc}
 use borrow.Author.Tests.{lt-ltb, le-ltb}
-use Rattle.report_text.specs.Put.{Put}
+use Rattle.report_text.specs.Inside.TextPut.{TextPut}
 use Rattle.report_text.proofs.Put.{put-then}
 use Rattle.report_text.specs.Words.{decimal-of, decimal}
 
@@ -50,11 +50,11 @@ pub large-length : (n : ℕ) → 10 ≤ n → n < 2 ^ 32 → length (decimal n) 
 large-length n h f = rw (decimal-large n h f) (length-append (decimal (n / 10)) _)
 
 module _ {b : List ℕ} {at : ℕ} {after : List ℕ} {next : ℕ} (n d : ℕ) where
-  pub put-small : n < 10 → d ≡ 48 + n → Put b at (d ∷ []) after next → Put b at (decimal n) after next
+  pub put-small : n < 10 → d ≡ 48 + n → TextPut b at (d ∷ []) after next → TextPut b at (decimal n) after next
   put-small h e p = rw (decimal-small n h, ← e) p
 
   pub put-large : {c : List ℕ} {m : ℕ} → 10 ≤ n → n < 2 ^ 32 → d ≡ 48 + n % 10 → at ≤ length b
-      → Put b at (decimal (n / 10)) c m → Put c m (d ∷ []) after next → Put b at (decimal n) after next
+      → TextPut b at (decimal (n / 10)) c m → TextPut c m (d ∷ []) after next → TextPut b at (decimal n) after next
   put-large h f e l p q = rw (decimal-large n h f, ← e) (put-then l p q)
 
 length-of : (k n : ℕ) → length (decimal-of k n) ≤ k

@@ -3,6 +3,6 @@ pub mod Put
 pub mod Decimal
 pub mod Line
 pub mod Lines
-pub mod Rows
+pub mod Findings
 pub mod Whole
 pub mod Reported

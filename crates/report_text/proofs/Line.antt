@@ -7,7 +7,7 @@ use native.Mathlib.Omega.{arith}
 use lib.ListN.{length, getD, take, length-append}
 use lib.Seq.{take-suc, take-all}
 use Rattle.report_text.specs.Words.{decimal, line}
-use Rattle.report_text.specs.Put.{Put, spaced}
+use Rattle.report_text.specs.Inside.TextPut.{TextPut, spaced}
 use Rattle.report_text.proofs.Put.{put-room, put-length, put-then}
 use Rattle.report_text.proofs.Decimal.{decimal-length}
 
@@ -32,10 +32,10 @@ line-spaced (w ∷ u ∷ ws) v vs =
 
 -- one word more
 module _ {b : List ℕ} {at : ℕ} (w : List ℕ) {c : List ℕ} {m : ℕ} where
-  pub put-spaced-one : Put b at (w ++ (0x20 ∷ [])) c m → Put b at (spaced (w ∷ [])) c m
+  pub put-spaced-one : TextPut b at (w ++ (0x20 ∷ [])) c m → TextPut b at (spaced (w ∷ [])) c m
   put-spaced-one p = rw (spaced-one w) p
 
-  pub put-spaced : {a : List ℕ} {i : ℕ} (ws : List (List ℕ)) → i ≤ length a → Put a i (spaced ws) b at → Put b at (w ++ (0x20 ∷ [])) c m → Put a i (spaced (ws ++ (w ∷ []))) c m
+  pub put-spaced : {a : List ℕ} {i : ℕ} (ws : List (List ℕ)) → i ≤ length a → TextPut a i (spaced ws) b at → TextPut b at (w ++ (0x20 ∷ [])) c m → TextPut a i (spaced (ws ++ (w ∷ []))) c m
   put-spaced ws h p q = rw (spaced-append ws (w ∷ [])) (put-then h p (put-spaced-one q))
 
 -- the first k numbers, a space behind each
@@ -69,7 +69,7 @@ begun-length (n ∷ ns) (suc k) = rw (length-append, length-append) (omega (arit
 pub numbers-length : (ns : List ℕ) (k : ℕ) → k + 1 ≡ length ns → length (line (map decimal ns)) ≤ 11 * (k + 1)
 numbers-length ns k e = rw (← begun-all ns k e, length-append, length-append) (omega (arith, begun-length ns k, decimal-length (getD ns k 0)))
 
-module _ {b : List ℕ} {at : ℕ} (ns : List ℕ) (k : ℕ) {c : List ℕ} {m : ℕ} (room : at + 11 * length ns ≤ length b) (p : Put b at (begun ns k) c m) where
+module _ {b : List ℕ} {at : ℕ} (ns : List ℕ) (k : ℕ) {c : List ℕ} {m : ℕ} (room : at + 11 * length ns ≤ length b) (p : TextPut b at (begun ns k) c m) where
   -- there is room for one number more
   pub begun-room : k < length ns → m + 11 ≤ length c
   begun-room h = put-room p (11 * k) 11 (begun-length ns k) (omega arith)
@@ -77,10 +77,10 @@ module _ {b : List ℕ} {at : ℕ} (ns : List ℕ) (k : ℕ) {c : List ℕ} {m :
   pub begun-kept : k ≤ length ns → length c ≡ length b
   begun-kept h = put-length p (omega (arith, begun-length ns k))
 
-  pub put-more : {d : List ℕ} {n : ℕ} → k < length ns → Put c m (decimal (getD ns k 0) ++ (0x20 ∷ [])) d n → Put b at (begun ns (k + 1)) d n
+  pub put-more : {d : List ℕ} {n : ℕ} → k < length ns → TextPut c m (decimal (getD ns k 0) ++ (0x20 ∷ [])) d n → TextPut b at (begun ns (k + 1)) d n
   put-more h q = rw (begun-more ns k h) (put-then (omega arith) p q)
 
   pub put-last : {d : List ℕ} {n : ℕ} (last : ℕ) → k ≤ last → last ≤ k → last + 1 ≡ length ns
-      → Put c m (decimal (getD ns last 0) ++ (0x0A ∷ [])) d n → Put b at (line (map decimal ns)) d n
+      → TextPut c m (decimal (getD ns last 0) ++ (0x0A ∷ [])) d n → TextPut b at (line (map decimal ns)) d n
   put-last last l h e q =
       rw (← begun-all ns k (omega arith)) (put-then (omega arith) p (rw (let e : last ≡ k = omega arith in e) at q))

@@ -7,9 +7,9 @@ use native.Mathlib.Numerals.{add-one}
 use native.Mathlib.Omega.{arith}
 use lib.ListN.{length, getD, take, drop, set, length-append, length-take, length-drop}
 use lib.Seq.{set-split, append-snoc, take-at, drop-at, drop-drop, take-all, length-take-le, paste, paste-zero, paste-suc, length-paste}
-use Rattle.report_text.specs.Put.{Put}
+use Rattle.report_text.specs.Inside.TextPut.{TextPut}
 
-pub put-one : (b : List ℕ) (at x : ℕ) → at < length b → Put b at (x ∷ []) (set b at x) (at + 1)
+pub put-one : (b : List ℕ) (at x : ℕ) → at < length b → TextPut b at (x ∷ []) (set b at x) (at + 1)
 put-one b at x h =
     record {
       holds = set-split b at x h ∙ sym (append-snoc (take at b) x (drop (suc at) b)) ∙ ap (λ (n : ℕ). take at b ++ (x ∷ []) ++ drop n b) (sym (add-one at));
@@ -17,21 +17,21 @@ put-one b at x h =
     }
 
 -- what a text leaves is as long as the buffer was
-pub put-length : {b : List ℕ} {at : ℕ} {s after : List ℕ} {next : ℕ} → Put b at s after next → at + length s ≤ length b → length after ≡ length b
+pub put-length : {b : List ℕ} {at : ℕ} {s after : List ℕ} {next : ℕ} → TextPut b at s after next → at + length s ≤ length b → length after ≡ length b
 put-length {b} {at} {s} p h = ap length (p .holds) ∙ simp (length-append, length-take, length-drop) (omega arith)
 
 -- behind a text of at most k bytes there is the rest of the room
-pub put-room : {b : List ℕ} {at : ℕ} {s after : List ℕ} {next : ℕ} → Put b at s after next
+pub put-room : {b : List ℕ} {at : ℕ} {s after : List ℕ} {next : ℕ} → TextPut b at s after next
     → (k n : ℕ) → length s ≤ k → at + (k + n) ≤ length b → next + n ≤ length after
 put-room p k n l h = omega (arith, p .ends, put-length p (omega arith))
 
 -- no text yet
-pub put-none : (b : List ℕ) (at : ℕ) → Put b at [] b at
+pub put-none : (b : List ℕ) (at : ℕ) → TextPut b at [] b at
 put-none b at = record { holds = paste-zero b at []; ends = sym (add-zero at) }
 
 -- text behind text is one text
 module _ {b : List ℕ} {at : ℕ} {s c : List ℕ} {m : ℕ} {t d : List ℕ} {n : ℕ} where
-  pub put-then : at ≤ length b → Put b at s c m → Put c m t d n → Put b at (s ++ t) d n
+  pub put-then : at ≤ length b → TextPut b at s c m → TextPut c m t d n → TextPut b at (s ++ t) d n
   put-then h p q =
       record {
         holds =
@@ -75,7 +75,7 @@ module _ (b : List ℕ) (at : ℕ) (s : List ℕ) (i : ℕ) (room : at + length 
   unfolding copied
   more-copied h = rw (add-one i) (paste-suc b at s i 0 (omega arith) h)
 
-  pub all-copied : i ≤ length s → length s ≤ i → Put b at s (copied b at s i) (at + length s)
+  pub all-copied : i ≤ length s → length s ≤ i → TextPut b at s (copied b at s i) (at + length s)
   unfolding copied
   all-copied l h =
       record {

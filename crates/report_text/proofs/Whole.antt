@@ -4,7 +4,7 @@ use mathlib.Core.Path.{_≡_, ap, _∙_}
 use Prim.Native.Nat.{ℕ, zero, suc, _-_, _≤_}
 use native.Mathlib.Nat.{zero-add, sub-zero, suc-sub-suc, zero-sub, le-add-right}
 use lib.ListN.{length, drop, replicate, length-append}
-use Rattle.report_text.specs.Put.{Put}
+use Rattle.report_text.specs.Inside.TextPut.{TextPut}
 use Rattle.report_text.specs.Text.{room, text-of}
 use Rattle.report_text.specs.declared.Text.{Text}
 
@@ -13,11 +13,11 @@ drop-replicate zero n a = rw sub-zero
 drop-replicate (suc k) zero a = rw zero-sub
 drop-replicate (suc k) (suc n) a = rw suc-sub-suc (drop-replicate k n a)
 
-whole : (n : ℕ) (t after : List ℕ) (next : ℕ) → Put (replicate n 0) 0 t after next → (next ≡ length t) × (after ≡ t ++ replicate (n - length t) 0)
+whole : (n : ℕ) (t after : List ℕ) (next : ℕ) → TextPut (replicate n 0) 0 t after next → (next ≡ length t) × (after ≡ t ++ replicate (n - length t) 0)
 whole n t after next p =
     (p .ends ∙ zero-add (length t), p .holds ∙ ap (λ (l : List ℕ). t ++ l) (ap (λ (k : ℕ). drop k (replicate n 0)) (zero-add (length t)) ∙ drop-replicate (length t) n 0))
 
-pub text-is : (t after : List ℕ) (next : ℕ) → Put (replicate room 0) 0 t after next → record { length = next; bytes = after } ≡ text-of t
+pub text-is : (t after : List ℕ) (next : ℕ) → TextPut (replicate room 0) 0 t after next → record { length = next; bytes = after } ≡ text-of t
 unfolding text-of
 text-is t after next p = let w = whole room t after next p in λ i. record { length = w .0 i; bytes = w .1 i }
 

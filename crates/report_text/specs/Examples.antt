@@ -1,4 +1,4 @@
--- 01: "Case F .. prints in full", computed from the definitions.
+-- The report on case F in full, computed from the definitions.
 use mathlib.Core.Bool.{xor}
 use mathlib.Core.List.{List, [], _∷_}
 use mathlib.Core.Path.{_≡_, refl}
@@ -19,7 +19,7 @@ use Rattle.analysis.specs.Answers.{outcome-by}
 use Rattle.report_text.specs.Words.{decimal-of, decimal, line}
 use Rattle.report_text.specs.Report.{blocker-word, first-line, time-words, task-line, task-lines, lines-behind, report}
 
--- "F. Policy 0: T 10 D 4 C 2; T 20 C 5 Q 3"
+-- case F: the first task has deadline 4, the second lock 3
 abbrev pub f : List Task
 f =
     record { period = 10; deadline = 4; lock = 0; frames = 2 ∷ [] }

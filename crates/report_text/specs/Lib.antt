@@ -1,7 +1,6 @@
--- The report: its words and lines, the whole text for a byte string, and what the code's parts write.
+-- The report: its words and lines, and the whole text for a byte string.
 pub mod Words
 pub mod Report
 pub mod Text
-pub mod Put
-pub mod Rows
+pub mod Inside
 pub mod Examples

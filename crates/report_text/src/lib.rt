@@ -3,14 +3,16 @@ ghost use mathlib.Core.List.{[], _∷_, _++_, map};
 ghost use mathlib.Core.Path.{_≡_};
 ghost use Prim.Native.Nat.{_+_, _*_, _≤_, _<_};
 ghost use lib.ListN.{length};
+ghost use Rattle.sheet.specs.Constants.{most-tasks};
 ghost use Rattle.report_text.specs.Words.{decimal, line};
 ghost use Rattle.report_text.specs.Report.{blocker-word, first-line, report};
-ghost use Rattle.report_text.specs.Put.{Put, spaced, plain-line};
-ghost use Rattle.report_text.specs.Rows.{row-line, row-lines, Limited};
+ghost use Rattle.report_text.specs.Inside.TextPut.{TextPut, spaced, number-room, head-room, line-room, first-room};
+ghost use Rattle.report_text.specs.Inside.Lines.{finding-line, finding-lines, Printable, AllPrintable};
 ghost use Rattle.report_text.specs.Text.{text-of};
+use analysis::Analysis;
+use analysis::Finding;
 use analysis::Outcome;
 use order::Blocker;
-use order::Ordered;
 use sheet::Sheet;
 
 // One byte more than the greatest sheet has: more need not be read to tell that a sheet is too long.
@@ -27,7 +29,7 @@ pub struct Text {
 
 fn put_byte(buffer: &mut [u8], at: usize, byte: u8) -> usize
     requires { ⌜ at < length (now buffer) ⌝ }
-    ensures { λ r. ⌜ Put (now (buffer .entry)) at (byte ∷ []) (now (buffer .exit)) r ⌝ }
+    ensures { λ r. ⌜ TextPut (now (buffer .entry)) at (byte ∷ []) (now (buffer .exit)) r ⌝ }
 {
     buffer[at] = byte;
     at + 1
@@ -35,7 +37,7 @@ fn put_byte(buffer: &mut [u8], at: usize, byte: u8) -> usize
 
 fn put_word(buffer: &mut [u8], at: usize, word: &[u8]) -> usize
     requires { ⌜ at + length (now word) ≤ length (now buffer) ⌝ }
-    ensures { λ r. ⌜ Put (now (buffer .entry)) at (now (word .entry)) (now (buffer .exit)) r ⌝ }
+    ensures { λ r. ⌜ TextPut (now (buffer .entry)) at (now (word .entry)) (now (buffer .exit)) r ⌝ }
 {
     let count = word.len();
     for i in 0..count {
@@ -54,7 +56,7 @@ fn digit(n: u32) -> u8
 
 fn put_number(buffer: &mut [u8], at: usize, n: u32) -> usize
     requires { ⌜ at + length (decimal n) ≤ length (now buffer) ⌝ }
-    ensures { λ r. ⌜ Put (now (buffer .entry)) at (decimal n) (now (buffer .exit)) r ⌝ }
+    ensures { λ r. ⌜ TextPut (now (buffer .entry)) at (decimal n) (now (buffer .exit)) r ⌝ }
 {
     if n < 10 {
         return put_byte(buffer, at, digit(n));
@@ -65,8 +67,8 @@ fn put_number(buffer: &mut [u8], at: usize, n: u32) -> usize
 
 // A number and the byte behind it: a space, or the line's end.
 fn put_number_and(buffer: &mut [u8], at: usize, n: u32, byte: u8) -> usize
-    requires { ⌜ at + 11 ≤ length (now buffer) ⌝ }
-    ensures { λ r. ⌜ Put (now (buffer .entry)) at (decimal n ++ (byte ∷ [])) (now (buffer .exit)) r ⌝ }
+    requires { ⌜ at + number-room ≤ length (now buffer) ⌝ }
+    ensures { λ r. ⌜ TextPut (now (buffer .entry)) at (decimal n ++ (byte ∷ [])) (now (buffer .exit)) r ⌝ }
 {
     let next = put_number(buffer, at, n);
     put_byte(buffer, next, byte)
@@ -74,8 +76,8 @@ fn put_number_and(buffer: &mut [u8], at: usize, n: u32, byte: u8) -> usize
 
 // Response times as the last words of a line.
 fn put_times(buffer: &mut [u8], at: usize, times: &[u32]) -> usize
-    requires { ⌜ (1 ≤ length (now times)) × (at + 11 * length (now times) ≤ length (now buffer)) ⌝ }
-    ensures { λ r. ⌜ Put (now (buffer .entry)) at (line (map decimal (now (times .entry)))) (now (buffer .exit)) r ⌝ }
+    requires { ⌜ (1 ≤ length (now times)) × (at + number-room * length (now times) ≤ length (now buffer)) ⌝ }
+    ensures { λ r. ⌜ TextPut (now (buffer .entry)) at (line (map decimal (now (times .entry)))) (now (buffer .exit)) r ⌝ }
 {
     let last = times.len() - 1;
     let mut next = at;
@@ -94,8 +96,8 @@ fn put_head(
     deadline: u32,
     blocked: u32,
 ) -> usize
-    requires { ⌜ (number < 100) × (at + 36 ≤ length (now buffer)) ⌝ }
-    ensures { λ r. ⌜ Put (now (buffer .entry)) at (spaced (decimal number ∷ decimal period ∷ decimal deadline ∷ decimal blocked ∷ [])) (now (buffer .exit)) r ⌝ }
+    requires { ⌜ (number < most-tasks) × (at + head-room ≤ length (now buffer)) ⌝ }
+    ensures { λ r. ⌜ TextPut (now (buffer .entry)) at (spaced (decimal number ∷ decimal period ∷ decimal deadline ∷ decimal blocked ∷ [])) (now (buffer .exit)) r ⌝ }
 {
     let behind_number = put_number_and(buffer, at, number, b' ');
     let behind_period = put_number_and(buffer, behind_number, period, b' ');
@@ -103,30 +105,24 @@ fn put_head(
     put_number_and(buffer, behind_deadline, blocked, b' ')
 }
 
-// The line of a task; a first time of 0 says that it does not pass.
-fn put_line(
-    buffer: &mut [u8],
-    at: usize,
-    number: u32,
-    period: u32,
-    deadline: u32,
-    blocked: u32,
-    times: &[u32],
-) -> usize
-    requires { ⌜ (number < 100) × (1 ≤ length (now times)) × (length (now times) ≤ 8) × (at + 124 ≤ length (now buffer)) ⌝ }
-    ensures { λ r. ⌜ Put (now (buffer .entry)) at (plain-line number period deadline blocked (now (times .entry))) (now (buffer .exit)) r ⌝ }
+// The line of a task.
+fn put_finding(buffer: &mut [u8], at: usize, f: Finding) -> usize
+    requires { ⌜ (Printable f) × (at + line-room ≤ length (now buffer)) ⌝ }
+    ensures { λ r. ⌜ TextPut (now (buffer .entry)) at (finding-line f) (now (buffer .exit)) r ⌝ }
 {
-    let next = put_head(buffer, at, number, period, deadline, blocked);
-    if times[0] == 0 {
+    let next = put_head(buffer, at, f.number, f.period, f.deadline, f.blocked);
+    if !f.passes {
         return put_word(buffer, next, b"missed\n");
     }
-    put_times(buffer, next, times)
+    let times = f.times;
+    let count = f.frame_count as usize;
+    put_times(buffer, next, &times[..count])
 }
 
 // A word, a number and the byte behind it.
 fn put_word_and_number(buffer: &mut [u8], at: usize, word: &[u8], n: u32, byte: u8) -> usize
-    requires { ⌜ at + (length (now word) + 11) ≤ length (now buffer) ⌝ }
-    ensures { λ r. ⌜ Put (now (buffer .entry)) at (now (word .entry) ++ (decimal n ++ (byte ∷ []))) (now (buffer .exit)) r ⌝ }
+    requires { ⌜ at + (length (now word) + number-room) ≤ length (now buffer) ⌝ }
+    ensures { λ r. ⌜ TextPut (now (buffer .entry)) at (now (word .entry) ++ (decimal n ++ (byte ∷ []))) (now (buffer .exit)) r ⌝ }
 {
     let next = put_word(buffer, at, word);
     put_number_and(buffer, next, n, byte)
@@ -134,8 +130,8 @@ fn put_word_and_number(buffer: &mut [u8], at: usize, word: &[u8], n: u32, byte: 
 
 // The last word of a miss.
 fn put_blocker(buffer: &mut [u8], at: usize, blocker: Blocker) -> usize
-    requires { ⌜ at + 11 ≤ length (now buffer) ⌝ }
-    ensures { λ r. ⌜ Put (now (buffer .entry)) at (blocker-word blocker ++ (0x0A ∷ [])) (now (buffer .exit)) r ⌝ }
+    requires { ⌜ at + number-room ≤ length (now buffer) ⌝ }
+    ensures { λ r. ⌜ TextPut (now (buffer .entry)) at (blocker-word blocker ++ (0x0A ∷ [])) (now (buffer .exit)) r ⌝ }
 {
     match blocker {
         Blocker::At(number) => put_number_and(buffer, at, number, b'\n'),
@@ -144,8 +140,8 @@ fn put_blocker(buffer: &mut [u8], at: usize, blocker: Blocker) -> usize
 }
 
 fn put_missed(buffer: &mut [u8], at: usize, count: u32, number: u32, blocker: Blocker) -> usize
-    requires { ⌜ at + 40 ≤ length (now buffer) ⌝ }
-    ensures { λ r. ⌜ Put (now (buffer .entry)) at (first-line (Outcome.Missed number blocker) count) (now (buffer .exit)) r ⌝ }
+    requires { ⌜ at + first-room ≤ length (now buffer) ⌝ }
+    ensures { λ r. ⌜ TextPut (now (buffer .entry)) at (first-line (Outcome.Missed number blocker) count) (now (buffer .exit)) r ⌝ }
 {
     let behind_count = put_word_and_number(buffer, at, b"missed ", count, b' ');
     let behind_number = put_number_and(buffer, behind_count, number, b' ');
@@ -153,8 +149,8 @@ fn put_missed(buffer: &mut [u8], at: usize, count: u32, number: u32, blocker: Bl
 }
 
 fn put_first_line(buffer: &mut [u8], at: usize, outcome: Outcome, count: u32) -> usize
-    requires { ⌜ at + 40 ≤ length (now buffer) ⌝ }
-    ensures { λ r. ⌜ Put (now (buffer .entry)) at (first-line outcome count) (now (buffer .exit)) r ⌝ }
+    requires { ⌜ at + first-room ≤ length (now buffer) ⌝ }
+    ensures { λ r. ⌜ TextPut (now (buffer .entry)) at (first-line outcome count) (now (buffer .exit)) r ⌝ }
 {
     match outcome {
         Outcome::Holds => put_word_and_number(buffer, at, b"holds ", count, b'\n'),
@@ -169,62 +165,31 @@ fn put_first_line(buffer: &mut [u8], at: usize, outcome: Outcome, count: u32) ->
     }
 }
 
-// The line of the task at place p, from the times of all tasks.
-fn put_task(buffer: &mut [u8], at: usize, o: Ordered, p: u32, times: &[u32]) -> usize
-    requires { ⌜ (Limited o) × (p < o .count) × (length (now times) ≡ 128) × (at + 124 ≤ length (now buffer)) ⌝ }
-    ensures { λ r. ⌜ Put (now (buffer .entry)) at (row-line o (now (times .entry)) p) (now (buffer .exit)) r ⌝ }
-{
-    let place = p as usize;
-    let number = o.numbers[place];
-    let task = o.tasks[place];
-    let blocked = order::blocking(o, p);
-    let from = 8 * (number as usize);
-    let end = from + task.frame_count as usize;
-    put_line(
-        buffer,
-        at,
-        number,
-        task.period,
-        task.deadline,
-        blocked,
-        &times[from..end],
-    )
-}
-
 // The lines of the tasks in priority order.
-fn put_tasks(buffer: &mut [u8], at: usize, o: Ordered, times: &[u32]) -> usize
-    requires { ⌜ (Limited o) × (length (now times) ≡ 128) × (at + 124 * o .count ≤ length (now buffer)) ⌝ }
-    ensures { λ r. ⌜ Put (now (buffer .entry)) at (row-lines o (now (times .entry)) (o .count)) (now (buffer .exit)) r ⌝ }
+fn put_findings(buffer: &mut [u8], at: usize, a: Analysis) -> usize
+    requires { ⌜ (AllPrintable a) × (at + line-room * a .«task_count» ≤ length (now buffer)) ⌝ }
+    ensures { λ r. ⌜ TextPut (now (buffer .entry)) at (finding-lines a (a .«task_count»)) (now (buffer .exit)) r ⌝ }
 {
-    let count = o.count;
+    let count = a.task_count as usize;
     let mut next = at;
     for p in 0..count {
-        next = put_task(buffer, next, o, p, times);
+        let f = a.findings[p];
+        next = put_finding(buffer, next, f);
     }
     next
-}
-
-fn assembled(outcome: Outcome, count: u32, o: Ordered, times: &[u32]) -> Text
-    requires { ⌜ (Limited o) × (length (now times) ≡ 128) ⌝ }
-    ensures { λ r. ⌜ r ≡ text-of (first-line outcome count ++ row-lines o (now (times .entry)) (o .count)) ⌝ }
-{
-    let mut bytes = [0u8; ROOM];
-    let first = put_first_line(&mut bytes, 0, outcome, count);
-    let end = put_tasks(&mut bytes, first, o, times);
-    Text {
-        length: end,
-        bytes: bytes,
-    }
 }
 
 // The report on a sheet.
 pub fn report_text(sheet: &[u8]) -> Text
     ensures { λ r. ⌜ r ≡ text-of (report (now (sheet .entry))) ⌝ }
 {
-    let analysis = analysis::analyse_bytes(sheet);
-    let reading = reader::read_sheet(sheet);
-    let o = order::in_order(reading.set);
-    let outcome = analysis.outcome;
-    let times = analysis.times;
-    assembled(outcome, analysis.task_count, o, &times)
+    let a = analysis::analysis_of_sheet(sheet);
+    let outcome = a.outcome;
+    let mut bytes = [0u8; ROOM];
+    let first = put_first_line(&mut bytes, 0, outcome, a.task_count);
+    let end = put_findings(&mut bytes, first, a);
+    Text {
+        length: end,
+        bytes: bytes,
+    }
 }

@@ -4,7 +4,7 @@ use mathlib.Core.Path.{_≡_}
 use Prim.Native.Nat.{_+_, _-_, _*_, _≤_}
 use native.Mathlib.Omega.{arith}
 use lib.ListN.{length}
-use Rattle.report_text.specs.Put.{Put}
+use Rattle.report_text.specs.Inside.TextPut.{TextPut}
 use Rattle.report_text.proofs.Put.{put-none}
 use Rattle.report_text.proofs.Line.{begun, begun-none, begun-room, begun-kept, put-more, put-last}
 use Rattle.report_text.proofs.put_times.Statement.{statement}
@@ -15,7 +15,7 @@ use Rattle.report_text.proofs.put_number_and.Reads as put-number-and-re
 
 abbrev Inv-loop : tie.InvT-loop
 Inv-loop buffer₀ at times last next₀ k₀ buffer next k =
-    (k ≤ last) × (last + 1 ≡ length times) × (at + 11 * length times ≤ length buffer₀) × Put buffer₀ at (begun times k) buffer next
+    (k ≤ last) × (last + 1 ≡ length times) × (at + 11 * length times ≤ length buffer₀) × TextPut buffer₀ at (begun times k) buffer next
 
 abbrev μ-loop : tie.MeasureT-loop
 μ-loop buffer₀ at times last next₀ k₀ buffer next k = last - k

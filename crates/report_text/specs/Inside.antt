@@ -1,0 +1,3 @@
+-- What the functions below `report_text` promise.
+pub mod TextPut
+pub mod Lines
