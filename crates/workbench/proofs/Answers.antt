@@ -29,8 +29,9 @@ use Rattle.order.specs.Order.{priority-order, ordered-set}
 use Rattle.order.proofs.Order.{Permutes, order-permutes}
 use Rattle.analysis.specs.Times.{number-at, blocker-number, verdict-number, outcome-of, times-of}
 use Rattle.analysis.specs.Answers.{blocker-code, code, refused-analysis, analysis-by, sheet-analysis}
-use Rattle.analysis.proofs.Entries.{times-long}
-use Rattle.workbench.specs.Entry.{four-bytes, checking, entry-number, entry-left}
+use Rattle.analysis.specs.Findings.{in-turn, times-by-number}
+use Rattle.analysis.proofs.Entries.{times-long, by-number-is}
+use Rattle.workbench.specs.Entry.{task-size, four-bytes, checking, entry-number, entry-left}
 use Rattle.workbench.proofs.Four.{length-four}
 
 -- ---- the number is small
@@ -60,22 +61,21 @@ module _ (s room : List ℕ) where
   n = length (tasks-of s)
 
   -- the places that an admitted sheet asks for
-  places : decided (sheet-checks s) ≡ Admitted → length (four-bytes (times-of (policy-of s) (tasks-of s))) ≡ 32 * n
+  places : decided (sheet-checks s) ≡ Admitted → length (four-bytes (times-of (policy-of s) (tasks-of s))) ≡ task-size * n
   places e =
       length-four (times-of (policy-of s) (tasks-of s))
       ∙ omega (arith, times-long (policy-of s) (tasks-of s) (by-reading s (reading-answer s ∙ e) .counted))
 
-  done-by : (a : Answer) → decided (sheet-checks s) ≡ a → 32 * analysis-by a (policy-of s) (tasks-of s) .«task_count» ≤ length room
+  done-by : (a : Answer) → decided (sheet-checks s) ≡ a → task-size * analysis-by a (policy-of s) (tasks-of s) .«task_count» ≤ length room
       → (code (analysis-by a (policy-of s) (tasks-of s) .outcome) ≡ entry-number s room)
-      × (four-bytes (take (8 * analysis-by a (policy-of s) (tasks-of s) .«task_count») (analysis-by a (policy-of s) (tasks-of s) .times))
-      ++ drop (32 * analysis-by a (policy-of s) (tasks-of s) .«task_count») room ≡ entry-left s room)
-  unfolding analysis-by refused-analysis entry-number entry-left checking four-bytes laid
+      × (laid (four-bytes (times-by-number (analysis-by a (policy-of s) (tasks-of s)))) room ≡ entry-left s room)
+  unfolding entry-number entry-left checking analysis-by refused-analysis times-by-number in-turn four-bytes laid
   done-by Admitted e h =
       let d = done-tells Room number-of (checking s) room (all-done Room number-of (checking s) room (none-applies (sheet-checks s) e) (rw (places e) h)) in
-      rw (take-at (times-of (policy-of s) (tasks-of s)) _ (8 * n) (times-long (policy-of s) (tasks-of s) (by-reading s (reading-answer s ∙ e) .counted)), ← places e) d
+      (d .0, ap (λ (l : List ℕ). laid (four-bytes l) room) (by-number-is (policy-of s) (tasks-of s)) ∙ d .1)
   done-by (refused r) e h = turned-tells Room number-of (checking s) room (by-checks Room number-of (checking s) room r (one-applies (sheet-checks s) r e))
 
-  short-by : (a : Answer) → decided (sheet-checks s) ≡ a → length room < 32 * analysis-by a (policy-of s) (tasks-of s) .«task_count»
+  short-by : (a : Answer) → decided (sheet-checks s) ≡ a → length room < task-size * analysis-by a (policy-of s) (tasks-of s) .«task_count»
       → (12 ≡ entry-number s room) × (room ≡ entry-left s room)
   unfolding analysis-by refused-analysis entry-number entry-left checking
   short-by Admitted e h = turned-tells Room number-of (checking s) room (by-room Room number-of (checking s) room (none-applies (sheet-checks s) e) (rw (places e) h))
@@ -89,14 +89,13 @@ module _ (s room : List ℕ) where
   small-by (refused r) e = omega (arith, number-small r)
 
   -- the room is there
-  pub done : 32 * sheet-analysis s .«task_count» ≤ length room
-      → (code (sheet-analysis s .outcome) ≡ entry-number s room)
-      × (four-bytes (take (8 * sheet-analysis s .«task_count») (sheet-analysis s .times)) ++ drop (32 * sheet-analysis s .«task_count») room ≡ entry-left s room)
+  pub done : task-size * sheet-analysis s .«task_count» ≤ length room
+      → (code (sheet-analysis s .outcome) ≡ entry-number s room) × (laid (four-bytes (times-by-number (sheet-analysis s))) room ≡ entry-left s room)
   unfolding sheet-analysis
   done h = done-by (decided (sheet-checks s)) refl h
 
   -- it is not
-  pub short : length room < 32 * sheet-analysis s .«task_count» → (12 ≡ entry-number s room) × (room ≡ entry-left s room)
+  pub short : length room < task-size * sheet-analysis s .«task_count» → (12 ≡ entry-number s room) × (room ≡ entry-left s room)
   unfolding sheet-analysis
   short h = short-by (decided (sheet-checks s)) refl h
 

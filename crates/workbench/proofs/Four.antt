@@ -2,16 +2,23 @@
 use mathlib.Core.List.{List, [], _∷_, _++_, append-nil, append-assoc}
 use mathlib.Core.Path.{_≡_, refl, sym, ap, _∙_}
 use Prim.Native.Nat.{ℕ, zero, suc, _+_, _*_, _/_, _%_, _^_, _≤_, _<_}
-use native.Mathlib.Nat.{div-one}
+use native.Mathlib.Nat.{div-one, add-zero}
 use native.Mathlib.Numerals.{add-one, towards-suc}
 use native.Mathlib.Omega.{arith}
 use lib.Dec.{lit<}
-use lib.ListN.{length, getD, take, drop, set, length-append, length-take, length-drop}
-use lib.Seq.{sets-eq, take-at, take-suc, drop-append-add, drop-drop}
+use lib.ListN.{length, getD, take, drop, set, length-append, length-take, length-drop, take-append-drop}
+use lib.Seq.{sets-eq, take-at, take-suc, take-all, drop-append-add, drop-drop}
 use Rattle.bits.specs.Packed.{digits, bytes-of}
 use Rattle.bits.proofs.Laws.{length-bytes}
 use Rattle.bits.proofs.Numbers.{byte-of}
-use Rattle.workbench.specs.Entry.{four-bytes}
+use Rattle.lent.specs.Lent.{laid}
+use Rattle.sheet.specs.Constants.{most-frames}
+use Rattle.analysis.specs.Findings.{found, in-turn, times-by-number}
+use Rattle.analysis.specs.Inside.Numbered.{Numbered}
+use Rattle.analysis.specs.declared.Analysis.{Analysis}
+use Rattle.analysis.proofs.ByNumber.{Stands, stands-more, all-stand}
+use Rattle.analysis.proofs.Delivered.{number-below, numbers-apart, place-found, place-found-in, number-found-back, by-number-length}
+use Rattle.workbench.specs.Entry.{time-size, task-size, four-bytes}
 
 four : (l : List ℕ) → length l ≡ 4 → l ≡ getD l 0 0 ∷ getD l 1 0 ∷ getD l 2 0 ∷ getD l 3 0 ∷ []
 four (a ∷ b ∷ c ∷ d ∷ []) e = refl
@@ -45,34 +52,70 @@ unfolding four-bytes
 length-four [] = refl
 length-four (x ∷ xs) = rw (length-append (bytes-of 4 (digits 32 x)) (four-bytes xs), length-bytes 4 (digits 32 x), length-four xs) (omega arith)
 
-module _ (xs d : List ℕ) where
-  -- the first i numbers over the front of d
+pub four-append : (xs ys : List ℕ) → four-bytes (xs ++ ys) ≡ four-bytes xs ++ four-bytes ys
+unfolding four-bytes
+four-append [] ys = refl
+four-append (x ∷ xs) ys = ap (λ (l : List ℕ). bytes-of 4 (digits 32 x) ++ l) (four-append xs ys) ∙ sym (append-assoc (bytes-of 4 (digits 32 x)) (four-bytes xs) (four-bytes ys))
+
+-- the times of one task put from a place on, one after another
+module _ (d : List ℕ) (at : ℕ) (xs : List ℕ) where
+  -- the first i of them
   pub fours : ℕ → List ℕ
-  fours i = four-bytes (take i xs) ++ drop (4 * i) d
+  fours i = take at d ++ four-bytes (take i xs) ++ drop (at + 4 * i) d
 
   pub none-put : d ≡ fours 0
   unfolding fours four-bytes
-  none-put = refl
+  none-put = rw (append-nil (take at d), add-zero at) (sym (take-append-drop at d))
 
-  pub length-fours : (i : ℕ) → i ≤ length xs → 4 * i ≤ length d → length (fours i) ≡ length d
+  pub length-fours : (i : ℕ) → i ≤ length xs → at + 4 * i ≤ length d → length (fours i) ≡ length d
   unfolding fours
   length-fours i h l = simp (length-append, length-four, length-take, length-drop) (omega arith)
 
-  pub fours-more : (i : ℕ) → i < length xs → 4 * (i + 1) ≤ length d
-      → take (4 * i) (fours i) ++ bytes-of 4 (digits 32 (getD xs i 0)) ++ drop (4 * i + 4) (fours i) ≡ fours (i + 1)
+  pub fours-more : (i : ℕ) → i < length xs → at + 4 * (i + 1) ≤ length d
+      → take (at + 4 * i) (fours i) ++ bytes-of 4 (digits 32 (getD xs i 0)) ++ drop (at + 4 * i + 4) (fours i) ≡ fours (i + 1)
   unfolding fours
-  fours-more i h l =
-      rw (take-at (four-bytes (take i xs)) (drop (4 * i) d) (4 * i) front, behind, add-one i, take-suc xs i 0 h, four-snoc (take i xs) (getD xs i 0))
+  fours-more i h l = rw (take-at (take at d ++ four-bytes (take i xs)) (drop (at + 4 * i) d) (at + 4 * i) front, behind, add-one i, take-suc xs i 0 h, four-snoc (take i xs) (getD xs i 0)) (ap (λ (l : List ℕ). l ++ drop (at + 4 * suc i) d) (append-assoc (take at d) (four-bytes (take i xs)) (bytes-of 4 (digits 32 (getD xs i 0)))))
     where
-      front : length (four-bytes (take i xs)) ≡ 4 * i
-      front = simp (length-four, length-take) (omega arith)
+      front : length (take at d ++ four-bytes (take i xs)) ≡ at + 4 * i
+      front = simp (length-append, length-four, length-take) (omega arith)
 
-      behind : drop (4 * i + 4) (four-bytes (take i xs) ++ drop (4 * i) d) ≡ drop (4 * (suc i)) d
+      behind : drop (at + 4 * i + 4) (take at d ++ four-bytes (take i xs) ++ drop (at + 4 * i) d) ≡ drop (at + 4 * (suc i)) d
       behind =
-          ap (λ (k : ℕ). drop (k + 4) (four-bytes (take i xs) ++ drop (4 * i) d)) (sym front)
-          ∙ drop-append-add (four-bytes (take i xs)) (drop (4 * i) d) 4
-          ∙ drop-drop 4 (4 * i) d ∙ ap (λ (k : ℕ). drop k d) {x = 4 * i + 4} {y = 4 * suc i} (omega arith)
+          ap (λ (k : ℕ). drop (k + 4) (take at d ++ four-bytes (take i xs) ++ drop (at + 4 * i) d)) (sym front)
+          ∙ drop-append-add (take at d ++ four-bytes (take i xs)) (drop (at + 4 * i) d) 4
+          ∙ drop-drop 4 (at + 4 * i) d ∙ ap (λ (k : ℕ). drop k d) {x = at + 4 * i + 4} {y = at + 4 * suc i} (omega arith)
 
-  pub all-put : (i m : ℕ) → i ≡ 8 * m → fours i ≡ four-bytes (take (8 * m) xs) ++ drop (32 * m) d
+  pub all-put : (i : ℕ) → i ≡ most-frames → length xs ≡ most-frames → fours i ≡ take at d ++ four-bytes xs ++ drop (at + task-size) d
   unfolding fours
-  all-put i m e = let same : 4 * i ≡ 32 * m = omega arith in rw (same, e)
+  all-put i e l = rw (e, take-all most-frames xs (omega arith))
+
+-- ---- rows of times in task-number order
+
+four-in-turn : (row : ℕ → List ℕ) (i n : ℕ) → in-turn (λ j. four-bytes (row j)) i n ≡ four-bytes (in-turn row i n)
+unfolding in-turn four-bytes
+four-in-turn row i zero = refl
+four-in-turn row i (suc n) = ap (λ (l : List ℕ). four-bytes (row i) ++ l) (four-in-turn row (suc i) n) ∙ sym (four-append (row i) (in-turn row (suc i) n))
+
+-- after p places their times stand at their numbers
+abbrev pub AtNumbers : Analysis → List ℕ → List ℕ → ℕ → Type 0
+AtNumbers a = Stands 0 task-size (a .«task_count») (λ p. found a p .number) (λ p. four-bytes (found a p .times))
+
+module _ (a : Analysis) (h : Numbered a) (room : List ℕ) (enough : task-size * a .«task_count» ≤ length room) where
+  wide : (p : ℕ) → p < a .«task_count» → length (four-bytes (found a p .times)) ≡ task-size
+  wide p l = length-four (found a p .times) ∙ ap (λ (k : ℕ). 4 * k) (h .eight p l)
+
+  pub numbers-more : (now : List ℕ) (p : ℕ) → p < a .«task_count» → AtNumbers a room now p
+      → AtNumbers a room (take (task-size * found a p .number) now ++ four-bytes (found a p .times) ++ drop (task-size * found a p .number + task-size) now) (p + 1)
+  numbers-more now p l s =
+      stands-more 0 task-size (a .«task_count») (λ p. found a p .number) (λ p. four-bytes (found a p .times)) (number-below a h) (numbers-apart a h) wide room enough now p l s
+
+  four-long : length (four-bytes (times-by-number a)) ≡ task-size * a .«task_count»
+  four-long = length-four (times-by-number a) ∙ omega (arith, by-number-length a h)
+
+  pub all-numbers : (now : List ℕ) → AtNumbers a room now (a .«task_count») → now ≡ laid (four-bytes (times-by-number a)) room
+  unfolding laid times-by-number
+  all-numbers now s =
+      all-stand 0 task-size (a .«task_count») (λ p. found a p .number) (λ p. four-bytes (found a p .times)) (number-below a h) (numbers-apart a h) wide room enough
+      (place-found a h) (place-found-in a h) (number-found-back a h) now s
+      ∙ ap (λ (l : List ℕ). l ++ drop (task-size * a .«task_count») room) (four-in-turn (λ i. found a (place-found a h i) .times) 0 (a .«task_count»))
+      ∙ ap (λ (m : ℕ). four-bytes (times-by-number a) ++ drop m room) (sym four-long)

@@ -1,8 +1,9 @@
 -- SCOPE.md, "The C entry": a sheet in, one number and the response times out, four bytes each.
 use mathlib.Core.List.{List, [], _∷_, _++_}
-use Prim.Native.Nat.{ℕ}
+use Prim.Native.Nat.{ℕ, _*_}
 use Rattle.bits.specs.Packed.{digits, bytes-of}
 use Rattle.lent.specs.Lent.{Call, answered, left-after}
+use Rattle.sheet.specs.Constants.{most-frames}
 use Rattle.sheet.specs.Refusals.{number-of}
 use Rattle.sheet.specs.Reading.{sheet-checks, policy-of, tasks-of}
 use Rattle.sheet.specs.declared.Refusal.{Refusal}
@@ -10,10 +11,17 @@ use Rattle.sheet.specs.declared.Refusal.the-variants.{Room}
 use Rattle.analysis.specs.Times.{outcome-of, times-of}
 use Rattle.analysis.specs.Answers.{code}
 
--- numbers in four bytes each, the high byte first
+-- how many bytes a time takes, and all times of a task
+abbrev pub time-size : ℕ
+time-size = 4
+
+abbrev pub task-size : ℕ
+task-size = time-size * most-frames
+
+-- times in four bytes each, the high byte first
 unfoldable pub four-bytes : List ℕ → List ℕ
 four-bytes [] = []
-four-bytes (t ∷ ts) = bytes-of 4 (digits 32 t) ++ four-bytes ts
+four-bytes (t ∷ ts) = bytes-of time-size (digits 32 t) ++ four-bytes ts
 
 -- checking a sheet: its own refusals, its times in four bytes each, its outcome's number
 unfoldable pub checking : List ℕ → Call Refusal ℕ ℕ

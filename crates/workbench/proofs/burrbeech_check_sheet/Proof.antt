@@ -1,13 +1,13 @@
 -- `burrbeech_check_sheet` meets its contract.
-use mathlib.Core.List.{_++_}
 use mathlib.Core.Path.{sym, ap, _∙_}
 use Prim.Native.Nat.{_≤_, _*_}
 use native.Mathlib.Omega.{arith}
 use denote.Ref.{now}
-use lib.ListN.{take, drop}
 use Rattle.analysis.specs.Answers.{code}
 use Rattle.analysis.specs.declared.Analysis.{Analysis}
-use Rattle.analysis.proofs.Entries.{few-of-sheet}
+use Rattle.analysis.specs.Findings.{times-by-number}
+use Rattle.analysis.proofs.Entries.{sheet-numbered}
+use Rattle.lent.specs.Lent.{laid}
 use Rattle.workbench.specs.Entry.{four-bytes}
 use Rattle.workbench.proofs.Answers.{done, short, small}
 use borrow.Author.Needs.{needs}
@@ -16,19 +16,19 @@ use Rattle.workbench.proofs.burrbeech_check_sheet.Tie as tie
 use Rattle.workbench.proofs.burrbeech_check_sheet.Reads as reads
 use Rattle.workbench.proofs.burrbeech_check_sheet.Lts as lts
 use Rattle.analysis.proofs.Outcome.code.Reads as code-reads
-use Rattle.analysis.proofs.analyse_bytes.Reads as analyse-bytes-reads
+use Rattle.analysis.proofs.analysis_of_sheet.Reads as analysis-of-sheet-reads
 use Rattle.sheet.proofs.Refusal.number.Reads as number-reads
 use Rattle.workbench.proofs.put_times.Reads as put-times-reads
 
-analyse-bytes-requires : tie.Need-analyse-bytes-requires
-analyse-bytes-requires c κs = search needs
+analysis-of-sheet-requires : tie.Need-analysis-of-sheet-requires
+analysis-of-sheet-requires c κs = search needs
 
 cast-need : tie.Need-cast-need
 cast-need c = search needs
 
 mul-need : tie.Need-mul-need
 mul-need c =
-    let few : c .before .analyse-bytes .result .«task_count» ≤ 16 = rw (c .before .analyse-bytes .ensures) (few-of-sheet _) in
+    let few : c .before .analysis-of-sheet .result .«task_count» ≤ 16 = rw (c .before .analysis-of-sheet .ensures) (sheet-numbered _ .few) in
     record { fits = omega arith }
 
 number-requires : tie.Need-number-requires
@@ -36,20 +36,20 @@ number-requires c κs = search needs
 
 returns : tie.Need-returns
 returns c =
-    let e = c .before .before .before .analyse-bytes .ensures in
+    let e = c .before .before .before .analysis-of-sheet .ensures in
     let a = c .before .before .before .before .before .before .args in
     let no = short (now (a .sheet)) (now (a .times)) (rw (← e) (omega arith)) in
     (c .number .ensures ∙ no .0, no .1)
 
 put-times-requires : tie.Need-put-times-requires
-put-times-requires c κs = (rw (c .before .before .before .analyse-bytes .ensures) (few-of-sheet _), omega arith)
+put-times-requires c κs = (rw (c .before .before .before .analysis-of-sheet .ensures) (sheet-numbered _), omega arith)
 
 code-requires : tie.Need-code-requires
 code-requires c κs = search needs
 
 cast-result : tie.Need-cast-result
 cast-result c =
-    let e = c .before .before .before .before .before .before .before .analyse-bytes .ensures in
+    let e = c .before .before .before .before .before .before .before .analysis-of-sheet .ensures in
     let s = now (c .before .before .before .before .before .before .before .before .before .before .args .sheet) in
     record { fits = omega (arith, small s, c .code .ensures ∙ ap (λ (x : Analysis). code (x .outcome)) e) }
 
@@ -58,13 +58,13 @@ same-length c = search needs
 
 returns-2 : tie.Need-returns-2
 returns-2 c =
-    let e = c .before .before .before .before .before .before .before .analyse-bytes .ensures in
+    let e = c .before .before .before .before .before .before .before .analysis-of-sheet .ensures in
     let a = c .before .before .before .before .before .before .before .before .before .before .args in
     let room = now (a .times) in
     let yes-room = done (now (a .sheet)) room (rw (← e) (omega arith)) in (
       c .code .ensures ∙ ap (λ (x : Analysis). code (x .outcome)) e ∙ yes-room .0,
       c .before .before .before .put-times .ensures
-          ∙ ap (λ (x : Analysis). four-bytes (take (8 * x .«task_count») (x .times)) ++ drop (32 * x .«task_count») room) e
+          ∙ ap (λ (x : Analysis). laid (four-bytes (times-by-number x)) room) e
           ∙ yes-room .1,
     )
 
@@ -72,7 +72,7 @@ pub burrbeech-check-sheet-spec : {M : Type 1} → statement M
 burrbeech-check-sheet-spec =
     tie.close
     (tie.spec
-    analyse-bytes-requires
+    analysis-of-sheet-requires
     cast-need
     mul-need
     number-requires
