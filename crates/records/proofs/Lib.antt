@@ -1,0 +1,7 @@
+-- Laws of rows, of fill and check word, and of the public functions.
+pub mod Packing
+pub mod Rows
+pub mod Placing
+pub mod Faces
+pub mod Taking
+pub mod Filling
