@@ -48,6 +48,10 @@ puts n at ws vs e =
     let there = there-has n at ws (both .0) in
     record { widths = there .0; room = omega arith; short = there .1; fits = both .1 }
 
+pub row-put : (n at : ℕ) (ws vs : List ℕ) → row-fits n at ws vs ≡ true → row-there n at ws ≡ true
+unfolding row-fits
+row-put n at ws vs e = and-eq-true-iff (row-there n at ws) (each-fits ws vs) .0 e .0
+
 module _ (s : List ℕ) (at : ℕ) (ws vs : List ℕ) where
   abbrev IsPut : Row → List ℕ → Type 0
   IsPut r t = (r ≡ ends (row-fits (length s) at ws vs) at ws) × (t ≡ stored-row s at ws vs)

@@ -5,3 +5,4 @@ pub mod Placing
 pub mod Faces
 pub mod Taking
 pub mod Filling
+pub mod RoundTrip

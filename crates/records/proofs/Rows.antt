@@ -1,7 +1,7 @@
 -- Which rows there are and which numbers fit them: the outcomes of `row-there` and `each-fits`, by the fact that decides each.
 use mathlib.Core.Bool.{Bool, true, false, _&&_, and-eq-true-iff, false≢true}
 use mathlib.Core.List.{List, [], _∷_}
-use mathlib.Core.Path.{_≡_, refl, sym, ap, _∙_}
+use mathlib.Core.Path.{_≡_, refl, sym, ap, ap₂, _∙_}
 use Prim.Native.Nat.{ℕ, zero, suc, _+_, _-_, _^_, _≤_, _<_}
 use native.Mathlib.Numerals.{add-one}
 use native.Mathlib.Omega.{arith}
@@ -12,6 +12,7 @@ use lib.Seq.{drop-cons}
 use Rattle.bits.proofs.Tests.{leb-iff}
 use Rattle.records.specs.Rows.{total}
 use Rattle.records.specs.Faces.{end-of, lawful, row-there, each-fits}
+use Rattle.records.proofs.Packing.{Fit, no-field, one-more}
 
 pub and-false : (b : Bool) → (b && false) ≡ false
 and-false true = refl
@@ -125,3 +126,15 @@ fits-at [] vs e i h = let z : ⊥ = omega arith in absurd z
 fits-at (w ∷ ws) [] e i h = absurd (false≢true e)
 fits-at (w ∷ ws) (v ∷ vs) e zero h = fits-first w v ws vs e .0
 fits-at (w ∷ ws) (v ∷ vs) e (suc i) h = fits-at ws vs (fits-first w v ws vs e .1) i (omega arith)
+
+pub fit-of : (ws vs : List ℕ) → each-fits ws vs ≡ true → Fit ws vs
+unfolding each-fits
+fit-of [] [] e = no-field
+fit-of [] (v ∷ vs) e = absurd (false≢true e)
+fit-of (w ∷ ws) [] e = absurd (false≢true e)
+fit-of (w ∷ ws) (v ∷ vs) e = let f = fits-first w v ws vs e in one-more (f .0) (fit-of ws vs (f .1))
+
+pub of-fit : {ws vs : List ℕ} → Fit ws vs → each-fits ws vs ≡ true
+unfolding each-fits
+of-fit no-field = refl
+of-fit (one-more {w} {v} {ws} {vs} h f) = ap₂ _&&_ (lt-ltb v (2 ^ w) h) (of-fit f)

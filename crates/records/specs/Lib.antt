@@ -3,3 +3,4 @@ pub mod Rows
 pub mod Sealed
 pub mod Faces
 pub mod Inside
+pub mod Examples
