@@ -15,7 +15,7 @@ use Rattle.sheet.specs.Fields.{frame-widths}
 use Rattle.sheet.specs.Admission.{decided, all, is-time, in-range, well-formed, lock-fits, monotonic, task-checks}
 use Rattle.sheet.specs.declared.Answer.the-variants.{Admitted}
 use Rattle.sheet.proofs.Checks.{passed}
-use Rattle.sheet.proofs.Packing.{Fit, no-field, one-more}
+use Rattle.records.proofs.Packing.{Fit, no-field, one-more}
 
 -- a task whose numbers fit their fields
 pub record InFields (t : Task) : Type 0 where

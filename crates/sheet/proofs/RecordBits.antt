@@ -1,5 +1,5 @@
 -- Header and task records in bits, both ways: what was written is found where the layout says, and what is found writes to the same bits.
-use mathlib.Core.Bool.{Bool, true, false, true≢false}
+use mathlib.Core.Bool.{Bool, false}
 use mathlib.Core.List.{List, [], _∷_, _++_, append-assoc}
 use mathlib.Core.Path.{_≡_, refl, sym, ap, ap₂, _∙_}
 use Prim.Native.Nat.{ℕ, zero, suc, _+_, _^_, _≤_, _<_}
@@ -10,13 +10,15 @@ use lib.ListN.{length, getD, take, drop, replicate, length-append, length-drop, 
 use lib.Seq.{drop-at, take-add}
 use Rattle.theory.specs.Tasks.{Task}
 use Rattle.sheet.specs.Constants.{the-version, most-frames, policy-width, task-count-width, frame-count-width, time-width}
-use Rattle.sheet.specs.Fields.{packed, unpacked, total, header-widths, fixed-widths, frame-widths}
+use Rattle.records.specs.Rows.{packed, unpacked, total}
+use Rattle.sheet.specs.Fields.{header-widths, fixed-widths, frame-widths}
 use Rattle.sheet.specs.Layout.{Header, header-in, records-in, frame-count-in, record-width, task-at-start, tasks-in}
 use Rattle.sheet.specs.Admission.{decided, frame-count-check}
-use Rattle.sheet.specs.Reading.{some-set, layout-checks}
+use Rattle.sheet.specs.Reading.{layout-checks}
 use Rattle.sheet.specs.Writing.{header-bits, task-bits, tasks-bits}
 use Rattle.sheet.specs.declared.Answer.the-variants.{Admitted}
-use Rattle.sheet.proofs.Packing.{Fit, no-field, one-more, length-packed, length-unpacked, unpacked-packed, packed-unpacked, fit-length}
+use Rattle.records.proofs.Packing.{Fit, no-field, one-more, length-packed, length-unpacked, unpacked-packed, packed-unpacked, fit-length}
+use Rattle.records.proofs.Filling.{zeros-unset, unset-zeros}
 use Rattle.sheet.proofs.Checks.{passed-over, passed, no-check}
 use Rattle.sheet.proofs.Counts.{count-passes, count-passed}
 use Rattle.sheet.proofs.InFields.{InFields, Each, no-task, task-more, FramesCounted}
@@ -140,19 +142,6 @@ pub length-tasks-in : (n : ℕ) (bits : List Bool) → length (tasks-in n bits) 
 unfolding tasks-in
 length-tasks-in zero bits = refl
 length-tasks-in (suc n) bits = ap suc (length-tasks-in n (drop (record-width bits) bits))
-
--- ---- fill bits
-
-pub zeros-unset : (n : ℕ) → some-set (replicate n false) ≡ false
-unfolding some-set
-zeros-unset zero = refl
-zeros-unset (suc n) = zeros-unset n
-
-pub unset-zeros : (bits : List Bool) → some-set bits ≡ false → bits ≡ replicate (length bits) false
-unfolding some-set
-unset-zeros [] e = refl
-unset-zeros (true ∷ bits) e = absurd (true≢false e)
-unset-zeros (false ∷ bits) e = ap (λ (bs : List Bool). false ∷ bs) (unset-zeros bits e)
 
 -- ---- the layout
 

@@ -8,24 +8,28 @@ use borrow.Author.Tests.{le-leb, le-ltb}
 use lib.Dec.{ltb, eqb}
 use lib.ListN.{length, replicate, length-append, length-replicate, take-append-drop}
 use lib.Seq.{length-take-le}
-use Rattle.bits.specs.Packed.{Bytes, bits-of, bytes-of}
-use Rattle.bits.proofs.Laws.{length-bits, bytes-bits, bytes-take, bytes-are-bytes}
+use Rattle.bits.specs.Packed.{Bytes, bits-of}
+use Rattle.bits.proofs.Laws.{length-bits, bytes-take, bytes-are-bytes}
 use Rattle.check_word.specs.Division.{seal, body, sealed}
-use Rattle.check_word.proofs.Sealing.{sealed-seal, body-seal, seal-body, bytes-seal}
+use Rattle.check_word.proofs.Sealing.{sealed-seal, seal-body, bytes-seal}
+use Rattle.records.specs.Rows.{total}
+use Rattle.records.specs.Sealed.{whole-bytes, sealed-record}
+use Rattle.records.proofs.Filling.{fill-of, fill-short, whole-of}
+use Rattle.records.proofs.RoundTrip.{record-bits}
 use Rattle.theory.specs.Tasks.{Task}
 use Rattle.sheet.specs.Constants.{the-version, most-tasks, least-size, greatest-size}
-use Rattle.sheet.specs.Fields.{total, header-widths}
+use Rattle.sheet.specs.Fields.{header-widths}
 use Rattle.sheet.specs.Tasks.{set-with}
 use Rattle.sheet.specs.Layout.{Header, header-in, records-in, tasks-in}
 use Rattle.sheet.specs.Admission.{decided, known-policy, policy-check, task-count-check, task-checks}
 use Rattle.sheet.specs.Reading.{layout-checks, sheet-checks, policy-of, tasks-of, reading}
-use Rattle.sheet.specs.Writing.{header-bits, tasks-bits, whole-bytes, sheet-of}
+use Rattle.sheet.specs.Writing.{header-bits, tasks-bits, sheet-of}
 use Rattle.sheet.specs.declared.Reading.{Reading}
 use Rattle.sheet.specs.declared.Answer.the-variants.{Admitted}
 use Rattle.sheet.proofs.Checks.{admitted-first, passed-over}
 use Rattle.sheet.proofs.Counts.{count-passes, policy-passes, known-small}
 use Rattle.sheet.proofs.RecordBits.{header-written, records-written, header-read, tasks-written, layout-written, length-tasks-in}
-use Rattle.sheet.proofs.Sizes.{fill-of, fill-short, bits-whole, size-between}
+use Rattle.sheet.proofs.Sizes.{size-between}
 use Rattle.sheet.proofs.Carried.{Carried, carried-fit, Found, reading-answer, admitted-reading}
 
 -- ---- from a set to its sheet and back
@@ -44,8 +48,7 @@ module _ (policy : ℕ) (ts : List Task) (c : Carried policy ts) where
   body-bits : bits-of (body (sheet-of policy ts)) ≡ header-bits policy (length ts) ++ behind-header
   unfolding sheet-of set-bits fill behind-header
   body-bits =
-      ap bits-of (body-seal (whole-bytes (set-bits policy ts)))
-      ∙ bits-whole (set-bits policy ts)
+      record-bits (set-bits policy ts)
       ∙ append-assoc (header-bits policy (length ts)) (tasks-bits ts) (replicate fill false)
 
   the-header : Header
@@ -67,7 +70,7 @@ module _ (policy : ℕ) (ts : List Task) (c : Carried policy ts) where
   tasks-are = ap₂ (λ (h : Header) (bs : List Bool). tasks-in (h .task-count) bs) header-is records-are ∙ tasks-written ts (replicate fill false) (carried-fit c)
 
   is-sealed : sealed (sheet-of policy ts) ≡ true
-  unfolding sheet-of set-bits
+  unfolding sheet-of sealed-record set-bits
   is-sealed = sealed-seal (whole-bytes (set-bits policy ts))
 
   checks-admit : decided (sheet-checks (sheet-of policy ts)) ≡ Admitted
@@ -97,18 +100,6 @@ module _ (policy : ℕ) (ts : List Task) (c : Carried policy ts) where
 
 -- ---- from a sheet to its set and back
 
--- bits with fewer than eight zeros behind them that fill bytes are those bytes' whole
-whole-of : (b : List ℕ) (bits : List Bool) (n : ℕ) → Bytes b → n < 8 → bits-of b ≡ bits ++ replicate n false → whole-bytes bits ≡ b
-unfolding whole-bytes
-whole-of b bits n h l e =
-    let total-length : length bits + n ≡ 8 * length b =
-    sym (length-append bits (replicate n false) ∙ ap (λ (k : ℕ). length bits + k) (length-replicate n false)) ∙ sym (ap length e) ∙ length-bits b in
-    let bytes : (length bits + 7) / 8 ≡ length b = omega arith in
-    let zeros : 8 * ((length bits + 7) / 8) - length bits ≡ n = omega arith in
-    ap₂ (λ (k m : ℕ). bytes-of k (bits ++ replicate m false)) bytes zeros
-    ∙ ap (bytes-of (length b)) (sym e)
-    ∙ bytes-bits b h
-
 header-there : (s : List ℕ) → Found s → total header-widths ≤ length (bits-of (body s))
 unfolding body total
 header-there s f = rw (length-bits (body s), length-take-le (length s - 2) s (omega arith)) (omega (arith, f .long-enough))
@@ -129,7 +120,7 @@ carried-bits s f =
 
 -- an admitted byte string is the sheet of what it carries
 pub sheet-of-carried : (s : List ℕ) → Bytes s → Found s → sheet-of (policy-of s) (tasks-of s) ≡ s
-unfolding sheet-of set-bits body
+unfolding sheet-of sealed-record set-bits body
 sheet-of-carried s h f =
     ap seal
     (whole-of (body s) (set-bits (policy-of s) (tasks-of s)) (f .layout .fill) (bytes-take (length s - 2) s h) (f .layout .short) (carried-bits s f))
@@ -137,5 +128,5 @@ sheet-of-carried s h f =
 
 -- a sheet is a byte string
 pub sheet-is-bytes : (policy : ℕ) (ts : List Task) → Bytes (sheet-of policy ts)
-unfolding sheet-of whole-bytes
+unfolding sheet-of sealed-record whole-bytes
 sheet-is-bytes policy ts = bytes-seal (whole-bytes (header-bits policy (length ts) ++ tasks-bits ts)) (bytes-are-bytes _ _)

@@ -1,22 +1,21 @@
 -- How long a sheet is. The least and greatest sizes, 15 and 452 bytes, are computed from the widths and limits.
-use mathlib.Core.Bool.{Bool, false}
 use mathlib.Core.List.{List, [], _∷_, _++_, map}
 use mathlib.Core.Path.{_≡_, refl, sym, ap, ap₂, _∙_}
-use Prim.Native.Nat.{ℕ, _+_, _-_, _*_, _/_, _≤_, _<_}
+use Prim.Native.Nat.{ℕ, _+_, _*_, _≤_}
 use native.Mathlib.Omega.{arith}
-use lib.ListN.{length, replicate, length-append, length-replicate}
-use Rattle.bits.specs.Packed.{bits-of}
-use Rattle.bits.proofs.Laws.{length-bytes, bits-bytes}
-use Rattle.check_word.proofs.Sealing.{length-seal}
+use lib.ListN.{length, replicate, length-append}
+use Rattle.records.specs.Rows.{total}
+use Rattle.records.specs.Sealed.{record-size}
+use Rattle.records.proofs.Filling.{length-record}
 use Rattle.theory.specs.Tasks.{Task, frame-count}
 use Rattle.sheet.specs.Constants.{time-width, most-tasks, most-frames, least-size, greatest-size}
-use Rattle.sheet.specs.Fields.{total, header-widths, fixed-widths, frame-widths}
+use Rattle.sheet.specs.Fields.{header-widths, fixed-widths, frame-widths}
 use Rattle.sheet.specs.Tasks.{task-in, records-of}
 use Rattle.sheet.specs.Admission.{admission}
-use Rattle.sheet.specs.Writing.{header-bits, task-bits, tasks-bits, whole-bytes, sheet-of, sheet-bytes}
+use Rattle.sheet.specs.Writing.{header-bits, task-bits, tasks-bits, sheet-of, sheet-bytes}
 use Rattle.sheet.specs.declared.TaskSet.{TaskSet}
 use Rattle.sheet.specs.declared.Answer.the-variants.{Admitted}
-use Rattle.sheet.proofs.Packing.{total-replicate}
+use Rattle.records.proofs.Packing.{total-replicate}
 use Rattle.sheet.proofs.InFields.{Each, no-task, task-more, FramesCounted}
 use Rattle.sheet.proofs.RecordBits.{length-header, length-task-bits}
 use Rattle.sheet.proofs.Carried.{by-admission}
@@ -26,31 +25,13 @@ unfoldable pub record-widths : List ℕ → ℕ
 record-widths [] = 0
 record-widths (n ∷ ns) = (total fixed-widths + total (frame-widths n)) + record-widths ns
 
--- the bytes of their sheet: header and records in whole bytes, and two bytes of check word
+-- the bytes of their sheet: the record of header and task records
 unfoldable pub sheet-size : List ℕ → ℕ
-sheet-size ns = (total header-widths + record-widths ns + 7) / 8 + 2
+sheet-size ns = record-size (total header-widths + record-widths ns)
 
 -- the frame counts of tasks
 abbrev pub frame-counts : List Task → List ℕ
 frame-counts ts = map frame-count ts
-
--- ---- whole bytes
-
-pub length-whole : (bits : List Bool) → length (whole-bytes bits) ≡ (length bits + 7) / 8
-unfolding whole-bytes
-length-whole bits = length-bytes ((length bits + 7) / 8) _
-
--- the zeros that fill bits up to a whole byte
-unfoldable pub fill-of : List Bool → ℕ
-fill-of bits = 8 * ((length bits + 7) / 8) - length bits
-
-pub fill-short : (bits : List Bool) → fill-of bits < 8
-unfolding fill-of
-fill-short bits = omega arith
-
-pub bits-whole : (bits : List Bool) → bits-of (whole-bytes bits) ≡ bits ++ replicate (fill-of bits) false
-unfolding whole-bytes fill-of
-bits-whole bits = bits-bytes ((length bits + 7) / 8) (bits ++ replicate (fill-of bits) false) (simp (length-append, length-replicate) (omega arith))
 
 -- ---- the length of a sheet
 
@@ -64,11 +45,8 @@ pub length-sheet : (policy : ℕ) (ts : List Task) → length (sheet-of policy t
 unfolding sheet-of sheet-size
 length-sheet policy ts =
     let head = header-bits policy (length ts) in
-    length-seal (whole-bytes (head ++ tasks-bits ts))
-    ∙ ap (λ (n : ℕ). n + 2)
-    (length-whole (head ++ tasks-bits ts)
-    ∙ ap (λ (n : ℕ). (n + 7) / 8)
-    (length-append head (tasks-bits ts) ∙ ap₂ _+_ (length-header policy (length ts)) (length-tasks-bits ts)))
+    length-record (head ++ tasks-bits ts)
+    ∙ ap record-size (length-append head (tasks-bits ts) ∙ ap₂ _+_ (length-header policy (length ts)) (length-tasks-bits ts))
 
 -- In numbers: 64 bits and 20 for each frame, in whole bytes behind the header.
 pub size-in-numbers : (n : ℕ) (ns : List ℕ) → record-widths (n ∷ ns) ≡ (64 + 20 * n) + record-widths ns

@@ -4,14 +4,17 @@ use mathlib.Core.List.{List, [], _∷_}
 use Prim.Native.Nat.{ℕ, zero, suc, _+_, _*_}
 use lib.ListN.{getD, drop}
 use Rattle.theory.specs.Tasks.{Task}
-use Rattle.sheet.specs.Fields.{unpacked, total, header-widths, fixed-widths, frame-widths}
+use Rattle.records.specs.Rows.{unpacked, total}
+use Rattle.sheet.specs.Fields.{header-widths, fixed-widths, frame-widths}
 
+-- the numbers of the header
 pub record Header : Type 0 where
   pub version : ℕ
   pub policy : ℕ
   pub task-count : ℕ
   pub spare : ℕ
 
+-- the header at the start of the bits
 unfoldable pub header-in : List Bool → Header
 header-in bits =
     let f = unpacked header-widths bits in
@@ -21,13 +24,15 @@ header-in bits =
 unfoldable pub records-in : List Bool → List Bool
 records-in bits = drop (total header-widths) bits
 
--- of the record at the start of the bits: its frame count, its length in bits, its task
+-- the frame count of the task record at the start of the bits
 unfoldable pub frame-count-in : List Bool → ℕ
 frame-count-in bits = getD (unpacked fixed-widths bits) 3 0
 
+-- how many bits that record takes
 unfoldable pub record-width : List Bool → ℕ
 record-width bits = total fixed-widths + total (frame-widths (frame-count-in bits))
 
+-- the task of that record
 unfoldable pub task-at-start : List Bool → Task
 task-at-start bits =
     let f = unpacked fixed-widths bits in

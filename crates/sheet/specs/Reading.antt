@@ -8,7 +8,9 @@ use Rattle.bits.specs.Packed.{bits-of}
 use Rattle.check_word.specs.Division.{body, sealed}
 use Rattle.theory.specs.Tasks.{Task}
 use Rattle.sheet.specs.Constants.{the-version, least-size, greatest-size}
-use Rattle.sheet.specs.Fields.{total, fixed-widths}
+use Rattle.records.specs.Rows.{total}
+use Rattle.records.specs.Sealed.{byte-width, some-set}
+use Rattle.sheet.specs.Fields.{fixed-widths}
 use Rattle.sheet.specs.Tasks.{set-with, blank-set}
 use Rattle.sheet.specs.Layout.{header-in, records-in, frame-count-in, record-width, tasks-in}
 use Rattle.lent.specs.Checks.{Check, _⇒_}
@@ -19,15 +21,10 @@ use Rattle.sheet.specs.declared.Reading.{Reading}
 use Rattle.sheet.specs.declared.Refusal.{Refusal}
 use Rattle.sheet.specs.declared.Refusal.the-variants.{Length, CheckWord, Version, BitSet, Records}
 
--- some bit is 1
-unfoldable pub some-set : List Bool → Bool
-some-set [] = false
-some-set (b ∷ bs) = elim b [ true ↦ true | false ↦ some-set bs ]
-
 -- Of n records that are still to come, the first of them of task i: 8 if its fixed part is not all there, 7, 8 if its frames are not; behind
 -- the last record 8 for eight or more bits left, 5 for a fill bit.
 unfoldable pub layout-checks : ℕ → ℕ → List Bool → List (Check Refusal)
-layout-checks i zero bits = (leb 8 (length bits) ⇒ Records) ∷ (some-set bits ⇒ BitSet) ∷ []
+layout-checks i zero bits = (leb byte-width (length bits) ⇒ Records) ∷ (some-set bits ⇒ BitSet) ∷ []
 layout-checks i (suc n) bits =
     (ltb (length bits) (total fixed-widths) ⇒ Records)
     ∷ frame-count-check i (frame-count-in bits)

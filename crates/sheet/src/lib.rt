@@ -5,6 +5,7 @@ ghost use lib.ListN.{length};
 ghost use Rattle.theory.specs.Tasks.{deadline-of, shortest-deadline};
 ghost use Rattle.sheet.specs.Pairs.{the-widths, the-limits, the-policies};
 ghost use Rattle.sheet.specs.Constants.{most-tasks, most-frames};
+ghost use Rattle.sheet.specs.Fields.{header-widths, fixed-widths, frame-widths};
 ghost use Rattle.sheet.specs.Tasks.{task-in, blank-record, blank-set, next-round};
 ghost use Rattle.sheet.specs.Admission.{known-policy, miscounted};
 ghost use Rattle.sheet.specs.Refusals.{number-of, task-of-refusal};
@@ -116,6 +117,36 @@ impl Sheet {
             least_size: Sheet::LEAST_SIZE,
             greatest_size: Sheet::GREATEST_SIZE,
         }
+    }
+
+    // The layout, stated once: the fields of the header, of the fixed part of a task, and of its frames, in their order.
+    pub fn header_widths() -> [usize; 4]
+        ensures { λ r. ⌜ r ≡ header-widths ⌝ }
+    {
+        [
+            Sheet::VERSION_WIDTH,
+            Sheet::POLICY_WIDTH,
+            Sheet::TASK_COUNT_WIDTH,
+            Sheet::SPARE_WIDTH,
+        ]
+    }
+
+    pub fn fixed_widths() -> [usize; 4]
+        ensures { λ r. ⌜ r ≡ fixed-widths ⌝ }
+    {
+        [
+            Sheet::TIME_WIDTH,
+            Sheet::TIME_WIDTH,
+            Sheet::TIME_WIDTH,
+            Sheet::FRAME_COUNT_WIDTH,
+        ]
+    }
+
+    // As many as a record has places for.
+    pub fn frame_widths() -> [usize; 8]
+        ensures { λ r. ⌜ r ≡ frame-widths most-frames ⌝ }
+    {
+        [Sheet::TIME_WIDTH; 8]
     }
 
     pub fn policies() -> Policies
