@@ -1,45 +1,43 @@
 -- The returns of the reader's parts, one law for each, by the tests that lead there.
-use mathlib.Core.Bool.{Bool, true, false, not, _||_, false≢true}
-use mathlib.Core.List.{List, [], _∷_}
-use mathlib.Core.Path.{_≡_, sym, ap, ap₂, _∙_}
-use Prim.Native.Nat.{ℕ, _+_, _*_, _≤_, _<_}
+use mathlib.Core.Bool.{Bool, true, false, not}
+use mathlib.Core.List.{List, [], _∷_, _++_}
+use mathlib.Core.Path.{_≡_, refl, sym, ap, ap₂, _∙_}
+use Prim.Native.Nat.{ℕ, zero, suc, _+_, _-_, _*_, _≤_, _<_}
+use native.Mathlib.Nat.{add-assoc}
 use native.Mathlib.Omega.{arith}
-use borrow.Author.Tests.{lt-ltb, le-ltb, ltb-false, eq-eqb, ne-eqb}
-use lib.Dec.{ltb, eqb, lit<}
-use lib.ListN.{length}
-use Rattle.bits.specs.Packed.{value, field}
-use Rattle.sheet.specs.Fields.{total, header-widths}
+use borrow.Author.Tests.{lt-ltb, le-ltb, eq-eqb, ne-eqb}
+use lib.Dec.{ltb, eqb, lit≤}
+use lib.ListN.{length, getD, take, drop, replicate, length-replicate, length-drop}
+use lib.Seq.{drop-drop}
+use Rattle.bits.specs.Packed.{bits-of}
+use Rattle.bits.proofs.Laws.{length-bits}
+use Rattle.lent.specs.Checks.{Check, _⇒_}
+use Rattle.lent.specs.Lent.{laid}
+use Rattle.records.specs.Rows.{unpacked, total}
+use Rattle.records.specs.Faces.{last-position, lawful, ends, row-has-places, taken-row}
+use Rattle.records.specs.declared.Row.{Row}
+use Rattle.records.specs.declared.Row.the-variants.{EndsAt, Untouched}
+use Rattle.records.proofs.Looking.{row-found, row-missing, row-numbers}
+use Rattle.records.proofs.Parts.{laid-whole, take-replicate, drop-replicate}
+use Rattle.records.proofs.Packing.{length-unpacked, total-replicate}
+use Rattle.sheet.specs.Constants.{the-version, time-width, most-tasks, most-frames, greatest-size}
+use Rattle.sheet.specs.Fields.{header-widths, fixed-widths, frame-widths}
 use Rattle.sheet.specs.Tasks.{record-of, set-with}
 use Rattle.sheet.specs.Layout.{header-in, records-in, frame-count-in, record-width, task-at-start, tasks-in}
-use Rattle.lent.specs.Checks.{Check, _⇒_}
-use Rattle.sheet.specs.Admission.{decided, known-policy, policy-check, task-count-check, frame-count-check}
+use Rattle.sheet.specs.Admission.{decided, known-policy, miscounted, policy-check, task-count-check, frame-count-check}
 use Rattle.sheet.specs.Reading.{layout-checks}
 use Rattle.sheet.proofs.Checks.{applies, passed-over, no-check}
+use Rattle.sheet.proofs.Counts.{count-passed}
 use Rattle.sheet.specs.declared.Answer.{Answer}
 use Rattle.sheet.specs.declared.Answer.the-variants.{Admitted, Refused}
 use Rattle.sheet.specs.declared.Refusal.{Refusal}
 use Rattle.sheet.specs.declared.Refusal.the-variants.{Version, Policy, BitSet, TaskCount, FrameCount, Records}
 use Rattle.sheet.specs.declared.Task.{Task as Record}
-use Rattle.reader.specs.Parts.{turned-away, reading-of, record-checks, nothing-found, found-by, found-at, records-reading, body-checks, set-in, body-reading}
+use Rattle.reader.specs.Inside.Parts.{turned-away, reading-of, times-from, record-checks, nothing-found, found-by, found-at, records-reading, body-checks, set-in, body-reading}
 use Rattle.reader.specs.declared.Found.{Found}
-use Rattle.reader.proofs.Unpacking.{number-in, total-equal}
+use Rattle.reader.specs.declared.Times.{Times}
 
--- the test "0 or over" a limit
-test-same : (n m most : ℕ) (b : Bool) → n ≡ m → (eqb n 0 || ltb most n) ≡ b → (eqb m 0 || ltb most m) ≡ b
-test-same n m most b e f = rw (← e) f
-
-pub well-counted : (n most : ℕ) → (eqb n 0 || ltb most n) ≡ false → n ≤ most
-well-counted n most e = ltb-false most n (right (eqb n 0) (ltb most n) e)
-  where
-    right : (a b : Bool) → (a || b) ≡ false → b ≡ false
-    right true b e = absurd (false≢true (sym e))
-    right false b e = e
-
--- ---- one record
-
-pub record-width-is : (bs : List Bool) → record-width bs ≡ 64 + 20 * frame-count-in bs
-unfolding record-width total
-record-width-is bs = ap (λ (n : ℕ). 64 + n) (total-equal (frame-count-in bs) 20)
+-- ---- one record, over the bits that it is looked for in
 
 module _ (i at : ℕ) (bs : List Bool) where
   from-frames : List (Check Refusal)
@@ -52,58 +50,200 @@ module _ (i at : ℕ) (bs : List Bool) where
   unfolding found-at found-by
   not-found-by why e = sym (ap (λ (a : Answer). found-by a at bs) e)
 
-  pub fixed-bits-missing : length bs < 64 → nothing-found Records ≡ found-at i at bs
-  unfolding record-checks total
-  fixed-bits-missing h = not-found-by Records (applies _ Records _ (lt-ltb (length bs) 64 h))
+  fixed-bits-missing : length bs < total fixed-widths → nothing-found Records ≡ found-at i at bs
+  unfolding record-checks
+  fixed-bits-missing h = not-found-by Records (applies _ Records _ (lt-ltb (length bs) (total fixed-widths) h))
 
-  module _ (h : 64 ≤ length bs) where
+  module _ (h : total fixed-widths ≤ length bs) where
     to-frame-count : decided (record-checks i bs) ≡ decided from-frame-count
-    unfolding record-checks total from-frame-count from-frames
-    to-frame-count = passed-over _ Records _ (le-ltb (length bs) 64 h)
+    unfolding record-checks from-frame-count from-frames
+    to-frame-count = passed-over _ Records _ (le-ltb (length bs) (total fixed-widths) h)
 
-    module _ (n : ℕ) (e : n ≡ frame-count-in bs) where
-      pub frame-count-wrong : (eqb n 0 || ltb 8 n) ≡ true → nothing-found (FrameCount i) ≡ found-at i at bs
+    count-wrong : miscounted (frame-count-in bs) most-frames ≡ true → nothing-found (FrameCount i) ≡ found-at i at bs
+    unfolding frame-count-check from-frame-count
+    count-wrong f = not-found-by (FrameCount i) (to-frame-count ∙ applies _ (FrameCount i) _ f)
+
+    module _ (f : miscounted (frame-count-in bs) most-frames ≡ false) where
+      to-frames : decided (record-checks i bs) ≡ decided from-frames
       unfolding frame-count-check from-frame-count
-      frame-count-wrong f = not-found-by (FrameCount i) (to-frame-count ∙ applies _ (FrameCount i) _ (test-same n _ 8 true e f))
+      to-frames = to-frame-count ∙ passed-over _ (FrameCount i) _ f
 
-      module _ (f : (eqb n 0 || ltb 8 n) ≡ false) where
-        to-frames : decided (record-checks i bs) ≡ decided from-frames
-        unfolding frame-count-check from-frame-count
-        to-frames = to-frame-count ∙ passed-over _ (FrameCount i) _ (test-same n _ 8 false e f)
+      frame-bits-missing : length bs < record-width bs → nothing-found Records ≡ found-at i at bs
+      unfolding from-frames
+      frame-bits-missing g = not-found-by Records (to-frames ∙ applies _ Records [] (lt-ltb (length bs) (record-width bs) g))
 
-        pub frames-missing : length bs < 64 + 20 * n → nothing-found Records ≡ found-at i at bs
-        unfolding from-frames
-        frames-missing g =
-            not-found-by Records (to-frames ∙ applies _ Records [] (lt-ltb (length bs) (record-width bs) (omega (arith, record-width-is bs))))
+      all-there : record-width bs ≤ length bs → found-by Admitted at bs ≡ found-at i at bs
+      unfolding from-frames found-at
+      all-there g =
+          sym (ap (λ (a : Answer). found-by a at bs) (to-frames ∙ passed-over _ Records [] (le-ltb (length bs) (record-width bs) g) ∙ no-check))
 
-        pub record-there : 64 + 20 * n ≤ length bs → (next : ℕ) (task : Record) → next ≡ at + 64 + 20 * n → task ≡ record-of (task-at-start bs)
-            → _≡_ {A = Found} (record { answer = Admitted; next = next; task = task }) (found-at i at bs)
-        unfolding from-frames found-at found-by
-        record-there g next task en et =
-            let e-next : next ≡ at + record-width bs = omega (arith, record-width-is bs) in
-            (λ k. record { answer = Admitted; next = e-next k; task = et k })
-            ∙ sym (ap (λ (a : Answer). found-by a at bs)
-            (to-frames ∙ passed-over _ Records [] (le-ltb (length bs) (record-width bs) (omega (arith, record-width-is bs))) ∙ no-check))
+-- ---- one record, by the rows that were taken
+
+header-lawful : lawful header-widths ≡ true
+unfolding lawful
+header-lawful = refl
+
+fixed-lawful : lawful fixed-widths ≡ true
+unfolding lawful
+fixed-lawful = refl
+
+frames-lawful : (n : ℕ) → lawful (frame-widths n) ≡ true
+unfolding lawful
+frames-lawful zero = refl
+frames-lawful (suc n) = frames-lawful n
+
+some-fixed : 1 ≤ total fixed-widths
+unfolding total
+some-fixed = lit≤ tt
+
+some-header : 1 ≤ total header-widths
+unfolding total
+some-header = lit≤ tt
+
+-- the places of the fixed part, and of the header
+abbrev four : List ℕ
+four = replicate 4 0
+
+pub near : (s : List ℕ) → length s ≤ greatest-size → 8 * length s ≤ last-position
+near s h = omega arith
+
+-- the first n of eight widths
+pub times-read : (s : List ℕ) (at n : ℕ) (ws : List ℕ) (r : Row) (ms : List ℕ) → n ≤ most-frames → ws ≡ frame-widths most-frames
+    → r ≡ ends (row-has-places (length s) at (take n ws) most-frames) at (take n ws) → ms ≡ taken-row s at (take n ws) (replicate most-frames 0)
+    → _≡_ {A = Times} (record { end = r; times = ms }) (times-from s at n)
+unfolding times-from
+times-read s at n ws r ms h ew er em =
+    let widths : take n ws ≡ frame-widths n = ap (take n) ew ∙ take-replicate n most-frames time-width h in
+    let ends-at = er ∙ ap (λ (us : List ℕ). ends (row-has-places (length s) at us most-frames) at us) widths in
+    let taken = em ∙ ap (λ (us : List ℕ). taken-row s at us (replicate most-frames 0)) widths in
+    λ k. record { end = ends-at k; times = taken k }
+
+module _ (s : List ℕ) (small : length s ≤ greatest-size) (i at : ℕ) (ws : List ℕ) (ew : ws ≡ fixed-widths)
+    (r : Row) (er : r ≡ ends (row-has-places (length s) at ws (length four)) at ws) where
+  fixed-row : r ≡ ends (row-has-places (length s) at fixed-widths (length four)) at fixed-widths
+  fixed-row = er ∙ ap (λ (us : List ℕ). ends (row-has-places (length s) at us (length four)) at us) ew
+
+  pub fixed-missing : r ≡ Untouched → nothing-found Records ≡ found-at i at (drop at (bits-of s))
+  fixed-missing u =
+      fixed-bits-missing i at (drop at (bits-of s)) (row-missing s at fixed-widths four fixed-lawful (near s small) (lit≤ tt) some-fixed r fixed-row u)
+
+  module _ (behind : ℕ) (eb : r ≡ EndsAt behind) (numbers : List ℕ) (en : numbers ≡ taken-row s at ws four) where
+    fixed-there : (total fixed-widths ≤ length (drop at (bits-of s))) × (behind ≡ at + total fixed-widths)
+    fixed-there = row-found s at fixed-widths four fixed-lawful (near s small) (lit≤ tt) some-fixed r fixed-row behind eb
+
+    numbers-are : numbers ≡ unpacked fixed-widths (drop at (bits-of s))
+    numbers-are =
+        en
+        ∙ ap (λ (us : List ℕ). taken-row s at us four) ew
+        ∙ row-numbers s at fixed-widths four fixed-lawful (near s small) (lit≤ tt) some-fixed (fixed-there .0)
+        ∙ laid-whole (unpacked fixed-widths (drop at (bits-of s))) four (sym (length-unpacked fixed-widths (drop at (bits-of s))))
+
+    count-is : getD numbers 3 0 ≡ frame-count-in (drop at (bits-of s))
+    unfolding frame-count-in
+    count-is = ap (λ (ns : List ℕ). getD ns 3 0) numbers-are
+
+    pub frame-count-wrong : miscounted (getD numbers 3 0) most-frames ≡ true → nothing-found (FrameCount i) ≡ found-at i at (drop at (bits-of s))
+    frame-count-wrong f = count-wrong i at (drop at (bits-of s)) (fixed-there .0) (ap (λ (n : ℕ). miscounted n most-frames) (sym count-is) ∙ f)
+
+    module _ (f : miscounted (getD numbers 3 0) most-frames ≡ false) where
+      counted : (1 ≤ getD numbers 3 0) × (getD numbers 3 0 ≤ most-frames)
+      counted = count-passed (getD numbers 3 0) most-frames f
+
+      in-bits : miscounted (frame-count-in (drop at (bits-of s))) most-frames ≡ false
+      in-bits = ap (λ (n : ℕ). miscounted n most-frames) (sym count-is) ∙ f
+
+      module _ (t : Times) (et : t ≡ times-from s behind (getD numbers 3 0)) where
+        n : ℕ
+        n = frame-count-in (drop at (bits-of s))
+
+        eight : List ℕ
+        eight = replicate most-frames 0
+
+        start : ℕ
+        start = at + total fixed-widths
+
+        times-is : t ≡ times-from s start n
+        unfolding n start
+        times-is = et ∙ ap₂ (λ (k m : ℕ). times-from s k m) (fixed-there .1) count-is
+
+        end-is : t .end ≡ ends (row-has-places (length s) start (frame-widths n) (length eight)) start (frame-widths n)
+        unfolding times-from eight
+        end-is = ap (λ (x : Times). x .end) times-is
+
+        enough : length (frame-widths n) ≤ length eight
+        unfolding n eight
+        enough = rw (length-replicate (frame-count-in (drop at (bits-of s))) time-width) (omega (arith, counted .1, count-is))
+
+        some-frames : 1 ≤ total (frame-widths n)
+        unfolding n
+        some-frames = rw (total-replicate (frame-count-in (drop at (bits-of s))) time-width) (omega (arith, counted .0, count-is))
+
+        behind-fixed : drop start (bits-of s) ≡ drop (total fixed-widths) (drop at (bits-of s))
+        unfolding start
+        behind-fixed = sym (drop-drop (total fixed-widths) at (bits-of s))
+
+        behind-long : length (drop start (bits-of s)) ≡ length (drop at (bits-of s)) - total fixed-widths
+        behind-long = ap length behind-fixed ∙ length-drop (total fixed-widths) (drop at (bits-of s))
+
+        pub frames-missing : t .end ≡ Untouched → nothing-found Records ≡ found-at i at (drop at (bits-of s))
+        unfolding record-width n
+        frames-missing u =
+            let h = row-missing s start (frame-widths n) eight (frames-lawful n) (near s small) enough some-frames (t .end) end-is u in
+            frame-bits-missing i at (drop at (bits-of s)) (fixed-there .0) in-bits (omega (arith, behind-long, fixed-there .0))
+
+        module _ (next : ℕ) (ex : t .end ≡ EndsAt next) where
+          frames-there : (total (frame-widths n) ≤ length (drop start (bits-of s))) × (next ≡ start + total (frame-widths n))
+          frames-there = row-found s start (frame-widths n) eight (frames-lawful n) (near s small) enough some-frames (t .end) end-is next ex
+
+          next-is : next ≡ at + record-width (drop at (bits-of s))
+          unfolding record-width n start
+          next-is = frames-there .1 ∙ add-assoc at (total fixed-widths) (total (frame-widths (frame-count-in (drop at (bits-of s)))))
+
+          frames : List ℕ
+          frames = unpacked (frame-widths n) (drop (total fixed-widths) (drop at (bits-of s)))
+
+          frames-count : length frames ≡ n
+          unfolding frames
+          frames-count = length-unpacked (frame-widths n) _ ∙ length-replicate n time-width
+
+          places-are : t .times ≡ frames ++ replicate (most-frames - length frames) 0
+          unfolding times-from laid eight frames
+          places-are =
+              ap (λ (x : Times). x .times) times-is
+              ∙ row-numbers s start (frame-widths n) eight (frames-lawful n) (near s small) enough some-frames (frames-there .0)
+              ∙ ap (λ (bs : List Bool). laid (unpacked (frame-widths n) bs) eight) behind-fixed
+              ∙ ap (λ (l : List ℕ). frames ++ l) (drop-replicate (length frames) most-frames 0)
+
+          whole : record-width (drop at (bits-of s)) ≤ length (drop at (bits-of s))
+          unfolding record-width n
+          whole = omega (arith, behind-long, fixed-there .0, frames-there .0)
+
+          pub record-there : _≡_ {A = Found}
+              (record {
+                answer = Admitted;
+                next = next;
+                task = record { period = getD numbers 0 0; deadline = getD numbers 1 0; lock = getD numbers 2 0; «frame_count» = getD numbers 3 0; frames = t .times };
+              })
+              (found-at i at (drop at (bits-of s)))
+          unfolding found-by record-of task-at-start frames n
+          record-there =
+              let count : getD numbers 3 0 ≡ length frames = count-is ∙ sym frames-count in
+              (λ k. record {
+                answer = Admitted;
+                next = next-is k;
+                task = record {
+                  period = getD (numbers-are k) 0 0;
+                  deadline = getD (numbers-are k) 1 0;
+                  lock = getD (numbers-are k) 2 0;
+                  «frame_count» = count k;
+                  frames = places-are k;
+                };
+              })
+              ∙ all-there i at (drop at (bits-of s)) (fixed-there .0) in-bits whole
 
 -- ---- the header
 
 module _ (bs : List Bool) where
-  pub version-is : (n : ℕ) → n ≡ value (field 0 4 bs) → n ≡ header-in bs .version
-  unfolding header-in total
-  version-is n e = e ∙ sym (number-in header-widths bs 0 (lit< tt))
-
-  pub policy-is : (n : ℕ) → n ≡ value (field 4 2 bs) → n ≡ header-in bs .policy
-  unfolding header-in total
-  policy-is n e = e ∙ sym (number-in header-widths bs 1 (lit< tt))
-
-  pub task-count-is : (n : ℕ) → n ≡ value (field 6 5 bs) → n ≡ header-in bs .task-count
-  unfolding header-in total
-  task-count-is n e = e ∙ sym (number-in header-widths bs 2 (lit< tt))
-
-  pub spare-is : (n : ℕ) → n ≡ value (field 11 5 bs) → n ≡ header-in bs .spare
-  unfolding header-in total
-  spare-is n e = e ∙ sym (number-in header-widths bs 3 (lit< tt))
-
   from-records : List (Check Refusal)
   from-records = layout-checks 0 (header-in bs .task-count) (records-in bs)
 
@@ -120,39 +260,84 @@ module _ (bs : List Bool) where
   unfolding body-reading reading-of
   body-refused why e = sym (ap (λ (a : Answer). reading-of a (set-in bs)) e)
 
-  pub version-wrong : (header-in bs .version ≡ 1 → ⊥) → turned-away Version ≡ body-reading bs
-  unfolding body-checks
-  version-wrong f = body-refused Version (applies _ Version _ (ap not (ne-eqb _ 1 f)))
+-- by the row that was taken
+module _ (s : List ℕ) (small : length s ≤ greatest-size) (long : total header-widths ≤ 8 * length s) (ws : List ℕ) (ew : ws ≡ header-widths)
+    (r : Row) (er : r ≡ ends (row-has-places (length s) 0 ws (length four)) 0 ws) where
+  header-row : r ≡ ends (row-has-places (length s) 0 header-widths (length four)) 0 header-widths
+  header-row = er ∙ ap (λ (us : List ℕ). ends (row-has-places (length s) 0 us (length four)) 0 us) ew
 
-  module _ (v : header-in bs .version ≡ 1) where
-    to-policy : decided (body-checks bs) ≡ decided from-policy
-    unfolding body-checks from-policy from-spare from-task-count from-records
-    to-policy = passed-over _ Version _ (ap not (eq-eqb _ 1 v))
+  -- the header is there
+  pub header-missing : r ≡ Untouched → ⊥
+  header-missing u =
+      let h = row-missing s 0 header-widths four header-lawful (near s small) (lit≤ tt) some-header r header-row u in
+      omega (arith, length-bits s)
 
-    pub policy-wrong : known-policy (header-in bs .policy) ≡ false → turned-away Policy ≡ body-reading bs
-    unfolding from-policy policy-check
-    policy-wrong e = body-refused Policy (to-policy ∙ applies _ Policy _ (ap not e))
+  module _ (start : ℕ) (eb : r ≡ EndsAt start) (numbers : List ℕ) (en : numbers ≡ taken-row s 0 ws four) where
+    header-there : (total header-widths ≤ length (bits-of s)) × (start ≡ total header-widths)
+    header-there =
+        let h = row-found s 0 header-widths four header-lawful (near s small) (lit≤ tt) some-header r header-row start eb in
+        (h .0, omega (arith, h .1))
 
-    module _ (p : known-policy (header-in bs .policy) ≡ true) where
-      to-spare : decided (body-checks bs) ≡ decided from-spare
+    numbers-are-header : numbers ≡ unpacked header-widths (bits-of s)
+    numbers-are-header =
+        en
+        ∙ ap (λ (us : List ℕ). taken-row s 0 us four) ew
+        ∙ row-numbers s 0 header-widths four header-lawful (near s small) (lit≤ tt) some-header (header-there .0)
+        ∙ laid-whole (unpacked header-widths (bits-of s)) four (sym (length-unpacked header-widths (bits-of s)))
+
+    version-is : getD numbers 0 0 ≡ header-in (bits-of s) .version
+    unfolding header-in
+    version-is = ap (λ (ns : List ℕ). getD ns 0 0) numbers-are-header
+
+    policy-is : getD numbers 1 0 ≡ header-in (bits-of s) .policy
+    unfolding header-in
+    policy-is = ap (λ (ns : List ℕ). getD ns 1 0) numbers-are-header
+
+    task-count-is : getD numbers 2 0 ≡ header-in (bits-of s) .task-count
+    unfolding header-in
+    task-count-is = ap (λ (ns : List ℕ). getD ns 2 0) numbers-are-header
+
+    spare-is : getD numbers 3 0 ≡ header-in (bits-of s) .spare
+    unfolding header-in
+    spare-is = ap (λ (ns : List ℕ). getD ns 3 0) numbers-are-header
+
+    pub version-wrong : (getD numbers 0 0 ≡ the-version → ⊥) → turned-away Version ≡ body-reading (bits-of s)
+    unfolding body-checks
+    version-wrong f = body-refused (bits-of s) Version (applies _ Version _ (ap not (ne-eqb _ the-version (λ e. f (version-is ∙ e)))))
+
+    module _ (v : getD numbers 0 0 ≡ the-version) where
+      to-policy : decided (body-checks (bits-of s)) ≡ decided (from-policy (bits-of s))
+      unfolding body-checks from-policy from-spare from-task-count from-records
+      to-policy = passed-over _ Version _ (ap not (eq-eqb _ the-version (sym version-is ∙ v)))
+
+      pub policy-wrong : known-policy (getD numbers 1 0) ≡ false → turned-away Policy ≡ body-reading (bits-of s)
       unfolding from-policy policy-check
-      to-spare = to-policy ∙ passed-over _ Policy _ (ap not p)
+      policy-wrong e = body-refused (bits-of s) Policy (to-policy ∙ applies _ Policy _ (ap (λ (p : ℕ). not (known-policy p)) (sym policy-is) ∙ ap not e))
 
-      pub spare-set : (header-in bs .spare ≡ 0 → ⊥) → turned-away BitSet ≡ body-reading bs
-      unfolding from-spare
-      spare-set f = body-refused BitSet (to-spare ∙ applies _ BitSet _ (ap not (ne-eqb _ 0 f)))
+      module _ (p : known-policy (getD numbers 1 0) ≡ true) where
+        to-spare : decided (body-checks (bits-of s)) ≡ decided (from-spare (bits-of s))
+        unfolding from-policy policy-check
+        to-spare = to-policy ∙ passed-over _ Policy _ (ap (λ (p : ℕ). not (known-policy p)) (sym policy-is) ∙ ap not p)
 
-      module _ (z : header-in bs .spare ≡ 0) (n : ℕ) (e : n ≡ header-in bs .task-count) where
-        to-task-count : decided (body-checks bs) ≡ decided from-task-count
+        pub spare-set : (getD numbers 3 0 ≡ 0 → ⊥) → turned-away BitSet ≡ body-reading (bits-of s)
         unfolding from-spare
-        to-task-count = to-spare ∙ passed-over _ BitSet _ (ap not (eq-eqb _ 0 z))
+        spare-set f = body-refused (bits-of s) BitSet (to-spare ∙ applies _ BitSet _ (ap not (ne-eqb _ 0 (λ e. f (spare-is ∙ e)))))
 
-        pub task-count-wrong : (eqb n 0 || ltb 16 n) ≡ true → turned-away TaskCount ≡ body-reading bs
-        unfolding from-task-count task-count-check
-        task-count-wrong f = body-refused TaskCount (to-task-count ∙ applies _ TaskCount _ (test-same n _ 16 true e f))
+        module _ (z : getD numbers 3 0 ≡ 0) where
+          to-task-count : decided (body-checks (bits-of s)) ≡ decided (from-task-count (bits-of s))
+          unfolding from-spare
+          to-task-count = to-spare ∙ passed-over _ BitSet _ (ap not (eq-eqb _ 0 (sym spare-is ∙ z)))
 
-        pub header-right : (eqb n 0 || ltb 16 n) ≡ false → (policy : ℕ) → policy ≡ header-in bs .policy → records-reading policy n (records-in bs) ≡ body-reading bs
-        unfolding from-task-count from-records task-count-check records-reading body-reading set-in
-        header-right f policy ep =
-            ap₂ (λ (x m : ℕ). reading-of (decided (layout-checks 0 m (records-in bs))) (set-with x (tasks-in m (records-in bs)))) ep e
-            ∙ ap (λ (a : Answer). reading-of a (set-in bs)) (sym (to-task-count ∙ passed-over _ TaskCount _ (test-same n _ 16 false e f)))
+          pub task-count-wrong : miscounted (getD numbers 2 0) most-tasks ≡ true → turned-away TaskCount ≡ body-reading (bits-of s)
+          unfolding from-task-count task-count-check
+          task-count-wrong f =
+              body-refused (bits-of s) TaskCount (to-task-count ∙ applies _ TaskCount _ (ap (λ (n : ℕ). miscounted n most-tasks) (sym task-count-is) ∙ f))
+
+          pub header-right : miscounted (getD numbers 2 0) most-tasks ≡ false
+              → records-reading (getD numbers 1 0) (getD numbers 2 0) (drop start (bits-of s)) ≡ body-reading (bits-of s)
+          unfolding from-task-count from-records task-count-check records-reading body-reading set-in records-in
+          header-right f =
+              ap (λ (k : ℕ). records-reading (getD numbers 1 0) (getD numbers 2 0) (drop k (bits-of s))) (header-there .1)
+              ∙ ap₂ (λ (p n : ℕ). records-reading p n (records-in (bits-of s))) policy-is task-count-is
+              ∙ ap (λ (a : Answer). reading-of a (set-in (bits-of s)))
+              (sym (to-task-count ∙ passed-over _ TaskCount _ (ap (λ (n : ℕ). miscounted n most-tasks) (sym task-count-is) ∙ f)))

@@ -8,6 +8,7 @@ use lib.Dec.{leb}
 use lib.ListN.{length}
 use Rattle.bits.specs.Packed.{bits-of}
 use Rattle.check_word.specs.Division.{body, sealed}
+use Rattle.sheet.specs.Constants.{least-size, greatest-size}
 use Rattle.sheet.specs.Tasks.{task-in, records-of}
 use Rattle.sheet.specs.Layout.{header-in, records-in, tasks-in}
 use Rattle.sheet.specs.Admission.{decided, task-checks}
@@ -20,7 +21,7 @@ use Rattle.sheet.specs.declared.Reading.{Reading}
 use Rattle.sheet.specs.declared.Refusal.{Refusal}
 use Rattle.sheet.specs.declared.Refusal.the-variants.{Length, CheckWord}
 use Rattle.sheet.specs.declared.TaskSet.{TaskSet}
-use Rattle.reader.specs.Parts.{turned-away, reading-of, body-checks, set-in, body-reading, judged}
+use Rattle.reader.specs.Inside.Parts.{turned-away, reading-of, body-checks, set-in, body-reading, judged}
 
 answer-of : (a : Answer) (s : TaskSet) → reading-of a s .answer ≡ a
 unfolding reading-of turned-away
@@ -55,18 +56,18 @@ module _ (s : List ℕ) where
   unfolding reading-of
   sheet-refused why = reading-is (Refused why)
 
-  pub too-short : length s < 15 → turned-away Length ≡ reading s
+  pub too-short : length s < least-size → turned-away Length ≡ reading s
   unfolding sheet-checks
-  too-short h = sheet-refused Length (applies _ Length _ (rw (lt-leb 15 (length s) h)))
+  too-short h = sheet-refused Length (applies _ Length _ (rw (lt-leb least-size (length s) h)))
 
-  module _ (low : 15 ≤ length s) where
-    pub too-long : 452 < length s → turned-away Length ≡ reading s
+  module _ (low : least-size ≤ length s) where
+    pub too-long : greatest-size < length s → turned-away Length ≡ reading s
     unfolding sheet-checks
-    too-long h = sheet-refused Length (applies _ Length _ (rw (le-leb 15 (length s) low, lt-leb (length s) 452 h)))
+    too-long h = sheet-refused Length (applies _ Length _ (rw (le-leb least-size (length s) low, lt-leb (length s) greatest-size h)))
 
-    module _ (high : length s ≤ 452) where
-      size-right : not (leb 15 (length s) && leb (length s) 452) ≡ false
-      size-right = rw (le-leb 15 (length s) low, le-leb (length s) 452 high)
+    module _ (high : length s ≤ greatest-size) where
+      size-right : not (leb least-size (length s) && leb (length s) greatest-size) ≡ false
+      size-right = rw (le-leb least-size (length s) low, le-leb (length s) greatest-size high)
 
       pub seal-wrong : sealed s ≡ false → turned-away CheckWord ≡ reading s
       unfolding sheet-checks

@@ -1,2 +1,2 @@
--- What the parts of the reader answer; the whole answer is `reading` of crate sheet.
-pub mod Parts
+-- Inside: what the parts of the reader answer; the whole answer is `reading` of crate sheet.
+pub mod Inside

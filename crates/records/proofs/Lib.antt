@@ -1,4 +1,5 @@
 -- Laws of rows, of fill and check word, and of the public functions.
+pub mod Parts
 pub mod Packing
 pub mod Rows
 pub mod Placing
@@ -6,3 +7,4 @@ pub mod Faces
 pub mod Taking
 pub mod Filling
 pub mod RoundTrip
+pub mod Looking

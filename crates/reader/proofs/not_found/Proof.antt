@@ -1,6 +1,6 @@
 -- `not_found` meets its contract.
 use borrow.Author.Needs.{needs}
-use Rattle.reader.specs.Parts.{nothing-found}
+use Rattle.reader.specs.Inside.Parts.{nothing-found}
 use Rattle.reader.proofs.not_found.Statement.{statement}
 use Rattle.reader.proofs.not_found.Tie as tie
 

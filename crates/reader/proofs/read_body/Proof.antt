@@ -1,114 +1,151 @@
 -- `read_body` meets its contract: each return by the tests that lead there.
-use mathlib.Core.Bool.{Bool, true}
-use mathlib.Core.List.{List}
-use mathlib.Core.Path.{_≡_, sym, _∙_}
-use Prim.Native.Nat.{_≤_}
+use mathlib.Core.Path.{sym, _∙_}
+use borrow.Author.Needs.{needs}
 use borrow.Author.Tests.{not-true, not-false}
 use denote.Ref.{now}
-use Rattle.bits.specs.Packed.{bits-of}
-use Rattle.sheet.specs.Layout.{header-in}
-use Rattle.sheet.specs.Admission.{known-policy}
-use Rattle.reader.proofs.Answers.{well-counted, version-is, policy-is, task-count-is, spare-is, version-wrong, policy-wrong, spare-set, task-count-wrong, header-right}
-use borrow.Author.Needs.{needs}
+use Rattle.sheet.specs.Constants.{most-tasks}
+use Rattle.sheet.proofs.Counts.{count-passed}
+use Rattle.reader.proofs.Answers.{header-missing, version-wrong, policy-wrong, spare-set, task-count-wrong, header-right}
 use Rattle.reader.proofs.read_body.Statement.{statement}
 use Rattle.reader.proofs.read_body.Tie as tie
 
--- what the tests leave of the header
-abbrev bits-at : tie.Start → List Bool
-bits-at c = bits-of (now (c .args .body))
+header-widths-requires : tie.Need-header-widths-requires
+header-widths-requires c κs = search needs
 
-version : (c : tie.Else1) → header-in (bits-at (c .before .before .before)) .version ≡ 1
-version c = sym (version-is _ _ (c .before .number-at .ensures)) ∙ c .if1 .left
+slice-aggregate-take-row : tie.Need-slice-aggregate-take-row
+slice-aggregate-take-row c = search needs
 
-policy : (c : tie.Else2) → known-policy (header-in (bits-at (c .before .before .before .before .before .before)) .policy) ≡ true
-policy c = rw (policy-is _ _ (c .before .before .number-at2 .ensures)) at (sym (c .before .known-policy .ensures) ∙ not-false _ (c .if2 .left))
+slice-aggregate-take-row-2 : tie.Need-slice-aggregate-take-row-2
+slice-aggregate-take-row-2 c = search needs
 
-spare : (c : tie.Else3) → header-in (bits-at (c .before .before .before .before .before .before .before .before)) .spare ≡ 0
-spare c = sym (spare-is _ _ (c .before .number-at3 .ensures)) ∙ c .if3 .left
+take-row-requires : tie.Need-take-row-requires
+take-row-requires c κs = search needs
 
-number-at-requires : tie.Need-number-at-requires
-number-at-requires c κs = search needs
+enum-known-start : tie.Need-enum-known-start
+enum-known-start c = search needs
+
+enum-told : tie.Need-enum-told
+enum-told c = search needs
 
 refused-requires : tie.Need-refused-requires
 refused-requires c κs = search needs
 
 returns : tie.Need-returns
 returns c =
-    let d = c .before in
-    c .refused .ensures ∙ version-wrong _ (λ e. d .if1 .taken (version-is _ _ (d .before .number-at .ensures) ∙ e))
+    let t = c .before .before .before .before in
+    let w = t .before .before .before in
+    absurd (header-missing (now (w .before .before .args .body)) (w .before .before .pre .1) (w .before .before .pre .0) _ (w .header-widths .ensures) _ (t .take-row .ensures .0) (c .before .enum-told .given .1))
 
-number-at-requires-2 : tie.Need-number-at-requires-2
-number-at-requires-2 c κs = search needs
-
-known-policy-requires : tie.Need-known-policy-requires
-known-policy-requires c κs = search needs
+array-read-if1 : tie.Need-array-read-if1
+array-read-if1 c = search needs
 
 refused-requires-2 : tie.Need-refused-requires-2
 refused-requires-2 c κs = search needs
 
 returns-2 : tie.Need-returns-2
 returns-2 c =
-    let d = c .before in
-    c .refused2 .ensures ∙ policy-wrong _ (version (d .before .before .before)) (rw (policy-is _ _ (d .before .before .number-at2 .ensures)) at (sym (d .before .known-policy .ensures) ∙ not-true _ (d .if2 .taken)))
+    let b = c .before .before .before in
+    let t = b .before .before .before in
+    let w = t .before .before .before in
+    c .refused2 .ensures ∙ version-wrong _ (w .before .before .pre .1) (w .before .before .pre .0) _ (w .header-widths .ensures) _ (t .take-row .ensures .0) _ (b .start .given .1) _ (t .take-row .ensures .1) (c .before .if1 .taken)
 
-number-at-requires-3 : tie.Need-number-at-requires-3
-number-at-requires-3 c κs = search needs
+array-read-policy : tie.Need-array-read-policy
+array-read-policy c = search needs
+
+known-policy-requires : tie.Need-known-policy-requires
+known-policy-requires c κs = search needs
 
 refused-requires-3 : tie.Need-refused-requires-3
 refused-requires-3 c κs = search needs
 
 returns-3 : tie.Need-returns-3
 returns-3 c =
-    let d = c .before in
-    let p = d .before .before in
-    c .refused3 .ensures ∙ spare-set _ (version (p .before .before .before)) (policy p) (λ e. d .if3 .taken (spare-is _ _ (d .before .number-at3 .ensures) ∙ e))
+    let p = c .before .before in
+    let v = p .before in
+    let b = v .before .before in
+    let t = b .before .before .before in
+    let w = t .before .before .before in
+    c .refused3 .ensures ∙ policy-wrong _ (w .before .before .pre .1) (w .before .before .pre .0) _ (w .header-widths .ensures) _ (t .take-row .ensures .0) _ (b .start .given .1) _ (t .take-row .ensures .1) (v .if1 .left) (sym (p .known-policy .ensures) ∙ not-true _ (c .before .if2 .taken))
 
-number-at-requires-4 : tie.Need-number-at-requires-4
-number-at-requires-4 c κs = search needs
-
-miscounted-requires : tie.Need-miscounted-requires
-miscounted-requires c κs = search needs
+array-read-if3 : tie.Need-array-read-if3
+array-read-if3 c = search needs
 
 refused-requires-4 : tie.Need-refused-requires-4
 refused-requires-4 c κs = search needs
 
 returns-4 : tie.Need-returns-4
 returns-4 c =
-    let m = c .before .before in
-    let z = m .before .before in
-    let p = z .before .before in
-    c .refused4 .ensures
-    ∙ task-count-wrong _ (version (p .before .before .before)) (policy p) (spare z) _ (task-count-is _ _ (m .before .number-at4 .ensures)) (sym (m .miscounted .ensures) ∙ c .before .if4 .taken)
+    let q = c .before .before in
+    let p = q .before in
+    let v = p .before in
+    let b = v .before .before in
+    let t = b .before .before .before in
+    let w = t .before .before .before in
+    c .refused4 .ensures ∙ spare-set _ (w .before .before .pre .1) (w .before .before .pre .0) _ (w .header-widths .ensures) _ (t .take-row .ensures .0) _ (b .start .given .1) _ (t .take-row .ensures .1) (v .if1 .left) (sym (p .known-policy .ensures) ∙ not-false _ (q .if2 .left)) (c .before .if3 .taken)
 
-read-records-requires : tie.Need-read-records-requires
-read-records-requires c κs = (well-counted _ 16 (sym (c .before .miscounted .ensures) ∙ c .if4 .left), search needs, search needs)
+array-read-count : tie.Need-array-read-count
+array-read-count c = search needs
+
+miscounted-requires : tie.Need-miscounted-requires
+miscounted-requires c κs = search needs
+
+refused-requires-5 : tie.Need-refused-requires-5
+refused-requires-5 c κs = search needs
 
 returns-5 : tie.Need-returns-5
 returns-5 c =
     let m = c .before .before in
-    let z = m .before .before in
-    let p = z .before .before in
+    let z = m .before in
+    let q = z .before in
+    let p = q .before in
+    let v = p .before in
+    let b = v .before .before in
+    let t = b .before .before .before in
+    let w = t .before .before .before in
+    c .refused5 .ensures
+    ∙ task-count-wrong _ (w .before .before .pre .1) (w .before .before .pre .0) _ (w .header-widths .ensures) _ (t .take-row .ensures .0) _ (b .start .given .1) _ (t .take-row .ensures .1) (v .if1 .left) (sym (p .known-policy .ensures) ∙ not-false _ (q .if2 .left)) (z .if3 .left) (sym (m .miscounted .ensures) ∙ c .before .if4 .taken)
+
+read-records-requires : tie.Need-read-records-requires
+read-records-requires c κs = (count-passed _ most-tasks (sym (c .before .miscounted .ensures) ∙ c .if4 .left) .1, search needs)
+
+returns-6 : tie.Need-returns-6
+returns-6 c =
+    let m = c .before .before in
+    let z = m .before in
+    let q = z .before in
+    let p = q .before in
+    let v = p .before in
+    let b = v .before .before in
+    let t = b .before .before .before in
+    let w = t .before .before .before in
     c .read-records .ensures
-    ∙ header-right _ (version (p .before .before .before)) (policy p) (spare z) _ (task-count-is _ _ (m .before .number-at4 .ensures)) (sym (m .miscounted .ensures) ∙ c .before .if4 .left) _
-    (policy-is _ _ (p .before .before .number-at2 .ensures))
+    ∙ header-right _ (w .before .before .pre .1) (w .before .before .pre .0) _ (w .header-widths .ensures) _ (t .take-row .ensures .0) _ (b .start .given .1) _ (t .take-row .ensures .1) (v .if1 .left) (sym (p .known-policy .ensures) ∙ not-false _ (q .if2 .left)) (z .if3 .left) (sym (m .miscounted .ensures) ∙ c .before .if4 .left)
 
 pub read-body-spec : {M : Type 1} → statement M
 read-body-spec =
     tie.close
     (tie.spec
-    number-at-requires
+    header-widths-requires
+    slice-aggregate-take-row
+    slice-aggregate-take-row-2
+    take-row-requires
+    enum-known-start
+    enum-told
     refused-requires
     returns
-    number-at-requires-2
-    known-policy-requires
+    array-read-if1
     refused-requires-2
     returns-2
-    number-at-requires-3
+    array-read-policy
+    known-policy-requires
     refused-requires-3
     returns-3
-    number-at-requires-4
-    miscounted-requires
+    array-read-if3
     refused-requires-4
     returns-4
+    array-read-count
+    miscounted-requires
+    refused-requires-5
+    returns-5
     read-records-requires
-    returns-5)
+    returns-6)

@@ -7,16 +7,16 @@ use Rattle.reader.proofs.read_records.Statement.{statement}
 use Rattle.reader.proofs.read_records.Tie as tie
 
 abbrev Inv-loop : tie.InvT-loop
-Inv-loop body policy count tasks₀ at₀ i₀ tasks at i = Walked body count i at tasks
+Inv-loop body start policy count tasks₀ at₀ i₀ tasks at i = Walked body start count i at tasks
 
 abbrev μ-loop : tie.MeasureT-loop
-μ-loop body policy count tasks₀ at₀ i₀ tasks at i = count - i
+μ-loop body start policy count tasks₀ at₀ i₀ tasks at i = count - i
 
 blank-requires : tie.Need-blank-requires Inv-loop μ-loop
 blank-requires c κs = search needs
 
 loop-holds : tie.Need-loop-holds Inv-loop μ-loop
-loop-holds c = rw (c .blank .ensures) (none-walked _ _ (c .before .before .pre .1))
+loop-holds c = rw (c .blank .ensures) (none-walked _ _ _)
 
 read-record-requires : tie.Need-read-record-requires Inv-loop μ-loop
 read-record-requires c κs = search needs
@@ -31,7 +31,7 @@ returns : tie.Need-returns Inv-loop μ-loop
 returns c =
     let d = c .before .before .before .before in
     c .refused .ensures
-    ∙ walk-ends _ _ _ _ _ (d .before .before .loop .inv) (d .before .loop-test .taken) _ (d .read-record .ensures) _ _ (c .before .before .answer .given .1)
+    ∙ walk-ends _ _ _ _ _ _ (d .before .before .loop .inv) (d .before .loop-test .taken) _ (d .read-record .ensures) _ _ (c .before .before .answer .given .1)
 
 enum-told : tie.Need-enum-told Inv-loop μ-loop
 enum-told c = search needs
@@ -54,7 +54,7 @@ loop-less c = search needs
 loop-again : tie.Need-loop-again Inv-loop μ-loop
 loop-again c =
     let d = c .before .before .before in
-    walk-more _ _ _ _ _ (d .before .before .loop .inv) (d .before .loop-test .taken) _ (d .read-record .ensures) (c .before .enum-told .given .1) (d .before .before .before .before .before .pre .0)
+    walk-more _ _ _ _ _ _ (d .before .before .loop .inv) (d .before .loop-test .taken) _ (d .read-record .ensures) (c .before .enum-told .given .1) (d .before .before .before .before .before .pre .0)
 
 check-fill-requires : tie.Need-check-fill-requires Inv-loop μ-loop
 check-fill-requires c κs = search needs
@@ -72,12 +72,12 @@ returns-2 : tie.Need-returns-2 Inv-loop μ-loop
 returns-2 c =
     let d = c .before .before .before .before in
     c .refused2 .ensures
-    ∙ fill-refused _ _ _ _ _ (d .before .before .loop .inv) (d .before .loop-test .left) _ (d .check-fill .ensures) _ _ (c .before .before .why .given .1)
+    ∙ fill-refused _ _ _ _ _ _ (d .before .before .loop .inv) (d .before .loop-test .left) _ (d .check-fill .ensures) _ _ (c .before .before .why .given .1)
 
 returns-3 : tie.Need-returns-3 Inv-loop μ-loop
 returns-3 c =
     let d = c .before .before in
-    walk-done _ _ _ _ _ (d .before .before .loop .inv) (d .before .loop-test .left) _ (d .check-fill .ensures) _ (c .enum-told2 .given .1)
+    walk-done _ _ _ _ _ _ (d .before .before .loop .inv) (d .before .loop-test .left) _ (d .check-fill .ensures) _ (c .enum-told2 .given .1)
 
 pub read-records-spec : {M : Type 1} → statement M
 read-records-spec =

@@ -8,6 +8,7 @@ use denote.Ref.{now}
 use lib.ListN.{length}
 use lib.Seq.{length-take-le}
 use Rattle.check_word.specs.Division.{body, sealed}
+use Rattle.records.specs.Rows.{total}
 use Rattle.reader.proofs.Whole.{too-short, too-long, seal-wrong, body-decides, tasks-decide}
 use borrow.Author.Needs.{needs}
 use Rattle.reader.proofs.read_sheet.Statement.{statement}
@@ -46,6 +47,7 @@ slice-aggregate-read-body : tie.Need-slice-aggregate-read-body
 slice-aggregate-read-body c = sym (length-take-le _ (now (c .before .before .before .before .before .before .args .bytes)) (omega arith))
 
 read-body-requires : tie.Need-read-body-requires
+unfolding total
 read-body-requires c κs =
     let s = now (c .before .before .before .before .before .before .args .bytes) in
     let size = length-take-le (length s - 2) s (omega arith) in

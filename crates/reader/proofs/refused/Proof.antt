@@ -1,6 +1,6 @@
 -- `refused` meets its contract.
 use borrow.Author.Needs.{needs}
-use Rattle.reader.specs.Parts.{turned-away}
+use Rattle.reader.specs.Inside.Parts.{turned-away}
 use Rattle.reader.proofs.refused.Statement.{statement}
 use Rattle.reader.proofs.refused.Tie as tie
 

@@ -3,9 +3,11 @@ use mathlib.Core.Bool.{Bool, not}
 use mathlib.Core.List.{List, [], _∷_, map}
 use Prim.Native.Nat.{ℕ, _+_}
 use lib.Dec.{ltb, eqb}
-use lib.ListN.{length}
-use Rattle.sheet.specs.Constants.{the-version}
-use Rattle.sheet.specs.Fields.{total, fixed-widths}
+use lib.ListN.{length, replicate}
+use Rattle.sheet.specs.Constants.{the-version, most-frames}
+use Rattle.records.specs.Rows.{total}
+use Rattle.records.specs.Faces.{ends, row-has-places, taken-row}
+use Rattle.sheet.specs.Fields.{fixed-widths, frame-widths}
 use Rattle.sheet.specs.Tasks.{task-in, record-of, records-of, blank-record, set-with, blank-set}
 use Rattle.sheet.specs.Layout.{header-in, records-in, frame-count-in, record-width, task-at-start, tasks-in}
 use Rattle.lent.specs.Checks.{Check, _⇒_}
@@ -18,6 +20,7 @@ use Rattle.sheet.specs.declared.Refusal.{Refusal}
 use Rattle.sheet.specs.declared.Refusal.the-variants.{Version, BitSet, Records}
 use Rattle.sheet.specs.declared.TaskSet.{TaskSet}
 use Rattle.reader.specs.declared.Found.{Found}
+use Rattle.reader.specs.declared.Times.{Times}
 
 -- a refusal, and beside it a set with no task
 unfoldable pub turned-away : Refusal → Reading
@@ -28,6 +31,14 @@ unfoldable pub reading-of : Answer → TaskSet → Reading
 reading-of Admitted s = record { answer = Admitted; set = s }
 reading-of (Refused why) s = turned-away why
 
+-- n frame times from a position on in eight places, and where they end
+unfoldable pub times-from : List ℕ → ℕ → ℕ → Times
+times-from s at n =
+    record {
+      end = ends (row-has-places (length s) at (frame-widths n) most-frames) at (frame-widths n);
+      times = taken-row s at (frame-widths n) (replicate most-frames 0);
+    }
+
 -- the checks of one record, that of task i, at the start of the bits
 unfoldable pub record-checks : ℕ → List Bool → List (Check Refusal)
 record-checks i bits =
@@ -36,9 +47,11 @@ record-checks i bits =
     ∷ (ltb (length bits) (record-width bits) ⇒ Records)
     ∷ []
 
+-- no record, and why
 unfoldable pub nothing-found : Refusal → Found
 nothing-found why = record { answer = Refused why; next = 0; task = blank-record }
 
+-- the record where its checks admit it
 unfoldable pub found-by : Answer → ℕ → List Bool → Found
 found-by Admitted at bits = record { answer = Admitted; next = at + record-width bits; task = record-of (task-at-start bits) }
 found-by (Refused why) at bits = nothing-found why
@@ -51,7 +64,7 @@ found-at i at bits = found-by (decided (record-checks i bits)) at bits
 unfoldable pub records-reading : ℕ → ℕ → List Bool → Reading
 records-reading policy n bits = reading-of (decided (layout-checks 0 n bits)) (set-with policy (tasks-in n bits))
 
--- "3, 4, 5 for header bits, 6. Then task by task .."
+-- the checks of the bytes before the check word: header, then task by task
 unfoldable pub body-checks : List Bool → List (Check Refusal)
 body-checks bits =
     let header = header-in bits in
@@ -61,12 +74,14 @@ body-checks bits =
     ∷ task-count-check (header .task-count)
     ∷ layout-checks 0 (header .task-count) (records-in bits)
 
+-- the set that the bytes before the check word carry
 unfoldable pub set-in : List Bool → TaskSet
 set-in bits = let header = header-in bits in set-with (header .policy) (tasks-in (header .task-count) (records-in bits))
 
+-- what the bytes before the check word are read as
 unfoldable pub body-reading : List Bool → Reading
 body-reading bits = reading-of (decided (body-checks bits)) (set-in bits)
 
--- "Then task by task 9, 10, 11."
+-- the checks of the tasks themselves, of a set that was read
 unfoldable pub judged : TaskSet → Reading
 judged s = reading-of (decided (task-checks 0 (map task-in (records-of s)))) s

@@ -1,0 +1,22 @@
+-- Parts of lists: equal elements, and what is laid over as many places.
+use mathlib.Core.List.{List, [], _∷_, _++_, append-nil}
+use mathlib.Core.Path.{_≡_, refl, ap, _∙_}
+use Prim.Native.Nat.{ℕ, zero, suc, _-_, _≤_}
+use native.Mathlib.Omega.{arith}
+use lib.ListN.{length, take, drop, replicate, drop-of-length-le}
+use Rattle.lent.specs.Lent.{laid}
+
+-- as many as there are places
+pub laid-whole : {A : Type 0} (written places : List A) → length places ≡ length written → laid written places ≡ written
+unfolding laid
+laid-whole written places e = rw (drop-of-length-le places {i = length written} (omega arith)) (append-nil written)
+
+pub drop-replicate {ℓ} : {A : Type ℓ} (n m : ℕ) (a : A) → drop n (replicate m a) ≡ replicate (m - n) a
+drop-replicate zero m a = let e : m ≡ m - 0 = omega arith in ap (λ (k : ℕ). replicate k a) e
+drop-replicate (suc n) zero a = let e : 0 ≡ 0 - suc n = omega arith in ap (λ (k : ℕ). replicate k a) e
+drop-replicate (suc n) (suc m) a = let e : m - n ≡ suc m - suc n = omega arith in drop-replicate n m a ∙ ap (λ (k : ℕ). replicate k a) e
+
+pub take-replicate {ℓ} : {A : Type ℓ} (n m : ℕ) (a : A) → n ≤ m → take n (replicate m a) ≡ replicate n a
+take-replicate zero m a h = refl
+take-replicate (suc n) zero a h = let z : ⊥ = omega arith in absurd z
+take-replicate (suc n) (suc m) a h = ap (_∷_ a) (take-replicate n m a (omega arith))
