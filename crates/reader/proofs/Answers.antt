@@ -28,6 +28,7 @@ use Rattle.sheet.specs.Admission.{decided, known-policy, miscounted, policy-che
 use Rattle.sheet.specs.Reading.{layout-checks}
 use Rattle.sheet.proofs.Checks.{applies, passed-over, no-check}
 use Rattle.sheet.proofs.Counts.{count-passed}
+use Rattle.sheet.proofs.Lawful.{header-lawful, fixed-lawful, frames-lawful, some-header, some-fixed}
 use Rattle.sheet.specs.declared.Answer.{Answer}
 use Rattle.sheet.specs.declared.Answer.the-variants.{Admitted, Refused}
 use Rattle.sheet.specs.declared.Refusal.{Refusal}
@@ -78,27 +79,6 @@ module _ (i at : ℕ) (bs : List Bool) where
           sym (ap (λ (a : Answer). found-by a at bs) (to-frames ∙ passed-over _ Records [] (le-ltb (length bs) (record-width bs) g) ∙ no-check))
 
 -- ---- one record, by the rows that were taken
-
-header-lawful : lawful header-widths ≡ true
-unfolding lawful
-header-lawful = refl
-
-fixed-lawful : lawful fixed-widths ≡ true
-unfolding lawful
-fixed-lawful = refl
-
-frames-lawful : (n : ℕ) → lawful (frame-widths n) ≡ true
-unfolding lawful
-frames-lawful zero = refl
-frames-lawful (suc n) = frames-lawful n
-
-some-fixed : 1 ≤ total fixed-widths
-unfolding total
-some-fixed = lit≤ tt
-
-some-header : 1 ≤ total header-widths
-unfolding total
-some-header = lit≤ tt
 
 -- the places of the fixed part, and of the header
 abbrev four : List ℕ

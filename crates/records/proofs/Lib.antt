@@ -8,3 +8,4 @@ pub mod Taking
 pub mod Filling
 pub mod RoundTrip
 pub mod Looking
+pub mod Putting

@@ -39,11 +39,12 @@ pub each-both : {P Q R : Task → Type 0} {ts : List Task} → ((t : Task) → P
 each-both f no-task no-task = no-task
 each-both f (task-more {t} p ps) (task-more q qs) = task-more (f t p q) (each-both f ps qs)
 
-time-fits : (n : ℕ) → is-time n ≡ true → n < 2 ^ time-width
+-- a number in range fits the field of a time
+pub time-fits : (n : ℕ) → is-time n ≡ true → n < 2 ^ time-width
 unfolding is-time
 time-fits n e = omega (arith, leb-true n greatest-time (and-eq-true-iff (leb 1 n) (leb n greatest-time) .0 e .1))
 
-times-fit : (ns : List ℕ) → all is-time ns ≡ true → Fit (frame-widths (length ns)) ns
+pub times-fit : (ns : List ℕ) → all is-time ns ≡ true → Fit (frame-widths (length ns)) ns
 unfolding all
 times-fit [] e = no-field
 times-fit (n ∷ ns) e =

@@ -3,6 +3,7 @@ pub mod Checks
 pub mod Records
 pub mod Counts
 pub mod Rounds
+pub mod Lawful
 pub mod InFields
 pub mod RecordBits
 pub mod Carried

@@ -1,6 +1,4 @@
 -- The laws behind the writer, in the order in which they build on one another.
-pub mod Puts
-pub mod Rows
 pub mod Tasks
 pub mod Admitted
 pub mod Sets

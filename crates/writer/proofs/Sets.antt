@@ -2,32 +2,23 @@
 use mathlib.Core.Bool.{Bool}
 use mathlib.Core.List.{List, [], _∷_, _++_, map, append-nil, append-assoc}
 use mathlib.Core.Path.{_≡_, refl, sym, ap, _∙_}
-use Prim.Native.Nat.{ℕ, zero, suc, _+_, _*_, _/_, _≤_, _<_}
+use Prim.Native.Nat.{ℕ, zero, suc, _+_, _*_, _≤_, _<_}
 use native.Mathlib.Numerals.{add-one}
 use native.Mathlib.Omega.{arith}
 use lib.ListN.{length, getD, take, length-append}
-use Rattle.check_word.proofs.Sealing.{length-seal}
-use Rattle.sheet.specs.Constants.{time-width, most-tasks, most-frames, greatest-size}
-use Rattle.sheet.specs.Fields.{total, frame-widths}
+use Rattle.records.specs.Rows.{total}
+use Rattle.records.specs.Sealed.{record-size}
+use Rattle.records.proofs.Filling.{length-record}
+use Rattle.sheet.specs.Constants.{most-tasks, greatest-size}
+use Rattle.sheet.specs.Fields.{header-widths}
 use Rattle.sheet.specs.Tasks.{task-in, records-of}
 use Rattle.sheet.specs.Admission.{admission}
-use Rattle.sheet.specs.Writing.{header-bits, task-bits, tasks-bits, whole-bytes, sheet-of, sheet-bytes}
+use Rattle.sheet.specs.Writing.{header-bits, task-bits, tasks-bits, sheet-of, sheet-bytes}
 use Rattle.sheet.specs.declared.Task.{Task as Record}
 use Rattle.sheet.specs.declared.TaskSet.{TaskSet}
 use Rattle.sheet.specs.declared.Answer.the-variants.{Admitted}
-use Rattle.sheet.proofs.Packing.{total-replicate}
-use Rattle.sheet.proofs.RecordBits.{length-header, length-task-bits}
-use Rattle.sheet.proofs.Sizes.{length-whole, admitted-size}
-use Rattle.writer.proofs.Tasks.{count-is}
-
--- ---- how many bits
-
-pub length-record : (r : Record) → r .«frame_count» ≤ most-frames → length (r .frames) ≡ most-frames → length (task-bits (task-in r)) ≡ 64 + 20 * r .«frame_count»
-unfolding task-in total
-length-record r few long =
-    length-task-bits (task-in r)
-    ∙ ap (λ (n : ℕ). 64 + total (frame-widths n)) (count-is r few long)
-    ∙ rw (total-replicate (r .«frame_count») time-width) (omega arith)
+use Rattle.sheet.proofs.RecordBits.{length-header}
+use Rattle.sheet.proofs.Sizes.{admitted-size}
 
 -- ---- records one after another
 
@@ -67,18 +58,16 @@ records-part (r ∷ rs) (suc i) (suc n) d h l =
 
 -- ---- the sheet's length
 
-pub size-is : (s : TaskSet) → length (sheet-bytes s) ≡ (16 + length (records-bits (records-of s)) + 7) / 8 + 2
-unfolding sheet-bytes sheet-of records-bits total
+pub size-is : (s : TaskSet) → length (sheet-bytes s) ≡ record-size (total header-widths + length (records-bits (records-of s)))
+unfolding sheet-bytes sheet-of records-bits
 size-is s =
     let h = header-bits (s .policy) (length (map task-in (records-of s))) in
     let r = records-bits (records-of s) in
-    length-seal (whole-bytes (h ++ r))
-    ∙ ap (λ (k : ℕ). k + 2) (length-whole (h ++ r))
-    ∙ ap (λ (k : ℕ). (k + 7) / 8 + 2) (length-append h r ∙ ap (λ (k : ℕ). k + length r) (length-header _ _))
+    length-record (h ++ r) ∙ ap record-size (length-append h r ∙ ap (λ (k : ℕ). k + length r) (length-header _ _))
 
 module _ (s : TaskSet) (e : admission s ≡ Admitted) (long : length (s .tasks) ≡ most-tasks) where
   pub size-most : length (sheet-bytes s) ≤ greatest-size
   size-most = admitted-size s long e .1
 
-  pub bits-most : length (records-bits (records-of s)) ≤ 3584
+  pub bits-most : total header-widths + length (records-bits (records-of s)) ≤ 8 * greatest-size
   bits-most = omega (arith, size-is s, size-most)

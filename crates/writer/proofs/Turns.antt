@@ -1,19 +1,24 @@
 -- The loops over the records of a set: what is put, and what is counted, after i turns.
 use mathlib.Core.List.{List, map}
 use mathlib.Core.Path.{_≡_, refl, sym, ap, _∙_}
-use Prim.Native.Nat.{ℕ, _+_, _/_, _≤_, _<_}
+use Prim.Native.Nat.{ℕ, _+_, _*_, _≤_, _<_}
 use native.Mathlib.Omega.{arith}
 use lib.ListN.{length, getD, take, length-append}
 use lib.Seq.{getD-take, length-take-le}
-use Rattle.sheet.specs.Constants.{most-tasks}
+use Rattle.sheet.specs.Constants.{most-tasks, greatest-size}
+use Rattle.sheet.specs.Fields.{header-widths}
 use Rattle.sheet.specs.Tasks.{task-in, records-of}
 use Rattle.sheet.specs.Admission.{admission}
 use Rattle.sheet.specs.Writing.{task-bits, tasks-bits, sheet-bytes}
 use Rattle.sheet.specs.declared.Task.{Task as Record}
 use Rattle.sheet.specs.declared.TaskSet.{TaskSet}
 use Rattle.sheet.specs.declared.Answer.the-variants.{Admitted}
-use Rattle.writer.specs.Put.{Space, Put}
-use Rattle.writer.proofs.Puts.{put-none, put-behind, space-behind, space-less}
+use Rattle.records.specs.Rows.{total}
+use Rattle.records.specs.Sealed.{record-size}
+use Rattle.records.specs.Faces.{end-of, width-of}
+use Rattle.records.specs.Inside.Steps.{Placed}
+use Rattle.records.proofs.Placing.{placed-none, placed-behind}
+use Rattle.records.proofs.Putting.{room-behind}
 use Rattle.writer.proofs.Admitted.{Ready, ready, tasks-in}
 use Rattle.writer.proofs.Sets.{records-bits, no-records, records-of-bits, record-more, records-part, bits-most, size-is}
 
@@ -34,33 +39,33 @@ module _ (s : TaskSet) (e : admission s ≡ Admitted) (long : length (s .tasks) 
 
 -- the first i records stand at their place
 pub record Stand (b : List ℕ) (at : ℕ) (s : TaskSet) (i : ℕ) (t : List ℕ) (next : ℕ) : Type 0 where
-  pub put : Put b at (records-bits (take i (s .tasks))) t next
+  pub put : Placed b at (records-bits (take i (s .tasks))) t next
   pub in-row : i ≤ s .«task_count»
   pub same : length t ≡ length b
 
 pub stand-none : (b : List ℕ) (at : ℕ) (s : TaskSet) → Stand b at s 0 b at
-stand-none b at s = record { put = rw (no-records (s .tasks)) (put-none b at); in-row = omega arith; same = refl }
+stand-none b at s = record { put = rw (no-records (s .tasks)) (placed-none b at); in-row = omega arith; same = refl }
 
 module _ (s : TaskSet) (e : admission s ≡ Admitted) (long : length (s .tasks) ≡ most-tasks)
-    {b : List ℕ} {at : ℕ} (room : Space b at (length (tasks-bits (map task-in (records-of s))))) where
+    (b : List ℕ) (at : ℕ) (room : at + length (tasks-bits (map task-in (records-of s))) ≤ end-of (length b)) where
   module _ {i : ℕ} {t : List ℕ} {next : ℕ} (p : Stand b at s i t next) (d : Record) (h : i < s .«task_count») where
-    space : Space b at (length (records-bits (take i (s .tasks))) + length (task-bits (task-in (getD (s .tasks) i d))))
-    space = space-less _ (part-at s e long i d h) (rw (records-of-bits s) room)
+    space : at + length (records-bits (take i (s .tasks))) + length (task-bits (task-in (getD (s .tasks) i d))) ≤ end-of (length b)
+    space = omega (arith, part-at s e long i d h, ap length (records-of-bits s))
 
-    pub stand-space : Space t next (length (task-bits (task-in (getD (s .tasks) i d))))
-    stand-space = space-behind (records-bits (take i (s .tasks))) (task-bits (task-in (getD (s .tasks) i d))) space (p .put)
+    pub stand-space : next + length (task-bits (task-in (getD (s .tasks) i d))) ≤ end-of (length t)
+    stand-space = room-behind (records-bits (take i (s .tasks))) _ space (p .put)
 
-    pub stand-more : {u : List ℕ} {end : ℕ} → length u ≡ length t → Put t next (task-bits (task-in (getD (s .tasks) i d))) u end → Stand b at s (i + 1) u end
+    pub stand-more : {u : List ℕ} {end : ℕ} → length u ≡ length t → Placed t next (task-bits (task-in (getD (s .tasks) i d))) u end → Stand b at s (i + 1) u end
     stand-more l q =
         record {
           put =
               rw (record-more (s .tasks) i d (omega (arith, in-use s e long)))
-              (put-behind (records-bits (take i (s .tasks))) (task-bits (task-in (getD (s .tasks) i d))) space (p .put) q);
+              (placed-behind (records-bits (take i (s .tasks))) (task-bits (task-in (getD (s .tasks) i d))) (omega (arith, space)) (p .put) q);
           in-row = omega arith;
           same = l ∙ p .same;
         }
 
-pub stand-all : {b t : List ℕ} {at i next : ℕ} (s : TaskSet) → Stand b at s i t next → s .«task_count» ≤ i → Put b at (tasks-bits (map task-in (records-of s))) t next
+pub stand-all : {b t : List ℕ} {at i next : ℕ} (s : TaskSet) → Stand b at s i t next → s .«task_count» ≤ i → Placed b at (tasks-bits (map task-in (records-of s))) t next
 unfolding records-of
 stand-all {i = i} s p h =
     let e : i ≡ s .«task_count» = omega (arith, p .in-row) in
@@ -68,15 +73,16 @@ stand-all {i = i} s p h =
 
 -- the header's bits and those of the first i records are counted
 pub record Counted (s : TaskSet) (i bits : ℕ) : Type 0 where
-  pub sum : bits ≡ 16 + length (records-bits (take i (s .tasks)))
+  pub sum : bits ≡ total header-widths + length (records-bits (take i (s .tasks)))
   pub in-row : i ≤ s .«task_count»
 
-pub counted-none : (s : TaskSet) → Counted s 0 16
-counted-none s = record { sum = rw (no-records (s .tasks)) refl; in-row = omega arith }
+pub counted-none : (s : TaskSet) (ws : List ℕ) (n : ℕ) → ws ≡ header-widths → n ≡ width-of ws → Counted s 0 n
+unfolding total
+counted-none s ws n ew e = record { sum = e ∙ ap width-of ew ∙ sym (rw (no-records (s .tasks)) refl); in-row = omega arith }
 
 module _ (s : TaskSet) (e : admission s ≡ Admitted) (long : length (s .tasks) ≡ most-tasks) {i bits : ℕ} (p : Counted s i bits) (d : Record) (h : i < s .«task_count») (w : ℕ)
     (is : w ≡ length (task-bits (task-in (getD (s .tasks) i d)))) where
-  pub counted-small : bits + w ≤ 3600
+  pub counted-small : bits + w ≤ 8 * greatest-size
   counted-small = omega (arith, p .sum, is, part-at s e long i d h, bits-most s e long)
 
   pub counted-more : Counted s (i + 1) (bits + w)
@@ -89,9 +95,9 @@ module _ (s : TaskSet) (e : admission s ≡ Admitted) (long : length (s .tasks) 
       }
 
 module _ (s : TaskSet) {i bits : ℕ} (p : Counted s i bits) (h : s .«task_count» ≤ i) where
-  pub counted-all : bits ≡ 16 + length (records-bits (records-of s))
+  pub counted-all : bits ≡ total header-widths + length (records-bits (records-of s))
   unfolding records-of
   counted-all = let e : i ≡ s .«task_count» = omega (arith, p .in-row) in rw (← e) (p .sum)
 
-  pub counted-size : (bits + 7) / 8 + 2 ≡ length (sheet-bytes s)
-  counted-size = ap (λ (k : ℕ). (k + 7) / 8 + 2) counted-all ∙ sym (size-is s)
+  pub counted-size : record-size bits ≡ length (sheet-bytes s)
+  counted-size = ap record-size counted-all ∙ sym (size-is s)

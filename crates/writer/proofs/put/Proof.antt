@@ -1,24 +1,45 @@
--- `put` puts one field, which is there.
-use native.Mathlib.Omega.{arith}
+-- `put` puts a row, which fits.
 use borrow.Author.Needs.{needs}
 use denote.Ref.{now}
-use Rattle.writer.proofs.Puts.{put-field}
+use Rattle.records.proofs.Putting.{row-placed, never-untouched}
 use Rattle.writer.proofs.put.Statement.{statement}
 use Rattle.writer.proofs.put.Tie as tie
 
-put-field-requires : tie.Need-put-field-requires
-put-field-requires c κs = search needs
+put-row-requires : tie.Need-put-row-requires
+put-row-requires c κs = search needs
 
-add-result : tie.Need-add-result
-add-result c = let room = c .before .before .before .before .before .pre .1 in omega (arith, room .there, room .small)
+enum-known-next : tie.Need-enum-known-next
+enum-known-next c = search needs
+
+enum-told : tie.Need-enum-told
+enum-told c = search needs
 
 same-length : tie.Need-same-length
 same-length c = search needs
 
 returns : tie.Need-returns
 returns c =
-    let s = c .before .before .before .before .before in
-    rw (c .before .before .put-field .ensures .1) (put-field (now (s .args .bytes)) (s .args .at) (s .args .width) (s .args .value) (s .pre .0) (s .pre .1))
+    let p = c .before .before .before .before .before in
+    let a = p .before .before .before .before .before in
+    row-placed _ _ _ _ (a .pre) _ (p .put-row .ensures .0) _ _ (p .put-row .ensures .1) (c .before .next .given .1)
+
+same-length-2 : tie.Need-same-length-2
+same-length-2 c = search needs
+
+returns-2 : tie.Need-returns-2
+returns-2 c =
+    let p = c .before .before .before .before in
+    let a = p .before .before .before .before .before in
+    absurd (never-untouched (now (a .args .bytes)) (a .args .at) (now (a .args .widths)) (now (a .args .numbers)) (a .pre) _ (p .put-row .ensures .0) (c .enum-told .given .1))
 
 pub put-spec : {M : Type 1} → statement M
-put-spec = tie.close (tie.spec put-field-requires add-result same-length returns)
+put-spec =
+    tie.close
+    (tie.spec
+    put-row-requires
+    enum-known-next
+    enum-told
+    same-length
+    returns
+    same-length-2
+    returns-2)

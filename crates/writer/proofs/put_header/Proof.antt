@@ -1,44 +1,39 @@
--- `put_header` puts the header's four fields.
-use mathlib.Core.List.{[], _∷_}
-use mathlib.Core.Path.{refl}
-use Prim.Native.Nat.{ℕ, _≤_}
-use native.Mathlib.Omega.{arith}
+-- `put_header` puts the header's row.
 use borrow.Author.Needs.{needs}
-use lib.Dec.{lit<, lit≤}
-use Rattle.sheet.specs.Fields.{header-widths}
-use Rattle.sheet.specs.Constants.{policy-width, task-count-width, the-version, most-tasks, deadline-monotonic}
-use Rattle.sheet.specs.Writing.{header-bits}
-use Rattle.writer.specs.Put.{EachInField, none, more}
-use Rattle.writer.proofs.Rows.{packed-space}
+use Rattle.writer.proofs.Whole.{header-can, header-placed}
 use Rattle.writer.proofs.put_header.Statement.{statement}
 use Rattle.writer.proofs.put_header.Tie as tie
 
-slice-aggregate-put-row : tie.Need-slice-aggregate-put-row
-slice-aggregate-put-row c = refl
+header-widths-requires : tie.Need-header-widths-requires
+header-widths-requires c κs = search needs
 
-slice-aggregate-put-row-2 : tie.Need-slice-aggregate-put-row-2
-slice-aggregate-put-row-2 c = refl
+slice-aggregate-put : tie.Need-slice-aggregate-put
+slice-aggregate-put c = search needs
 
-header-fit : (policy n : ℕ) → policy ≤ deadline-monotonic → n ≤ most-tasks → EachInField header-widths (the-version ∷ policy ∷ n ∷ 0 ∷ [])
-header-fit policy n p h =
-    more (record { low = lit≤ tt; high = lit≤ tt; fits = lit< tt })
-    (more {w = policy-width} {v = policy} (record { low = lit≤ tt; high = lit≤ tt; fits = omega arith })
-    (more {w = task-count-width} {v = n} (record { low = lit≤ tt; high = lit≤ tt; fits = omega arith })
-    (more (record { low = lit≤ tt; high = lit≤ tt; fits = lit< tt }) none)))
+slice-aggregate-put-2 : tie.Need-slice-aggregate-put-2
+slice-aggregate-put-2 c = search needs
 
-put-row-requires : tie.Need-put-row-requires
-unfolding header-bits
-put-row-requires c κs =
-    let a = c .before .before .before .before in
-    let fields = header-fit _ _ (a .pre .0) (a .pre .1) in
-    (fields, packed-space fields (a .pre .2))
+put-requires : tie.Need-put-requires
+put-requires c κs =
+    let w = c .before .before .before in
+    let a = w .before .before in
+    header-can _ _ _ _ (w .header-widths .ensures) (a .pre .0) (a .pre .1) (a .pre .2)
 
 same-length : tie.Need-same-length
 same-length c = search needs
 
 returns : tie.Need-returns
-unfolding header-bits
-returns c = c .before .before .put-row .ensures
+returns c =
+    let p = c .before .before in
+    header-placed _ _ _ (p .before .before .before .before .header-widths .ensures) (p .put .ensures)
 
 pub put-header-spec : {M : Type 1} → statement M
-put-header-spec = tie.close (tie.spec slice-aggregate-put-row slice-aggregate-put-row-2 put-row-requires same-length returns)
+put-header-spec =
+    tie.close
+    (tie.spec
+    header-widths-requires
+    slice-aggregate-put
+    slice-aggregate-put-2
+    put-requires
+    same-length
+    returns)

@@ -38,7 +38,7 @@ put-task-requires c κs =
     let p = c .before .before .before .loop .inv in
     let l = c .before .before .loop-test .taken in
     let r = ready-at _ (a .pre .0) (long a) _ _ l in
-    (r .few, r .ranged, stand-space _ (a .pre .0) (long a) (a .pre .1) p _ l)
+    (r .few, r .ranged, stand-space _ (a .pre .0) (long a) _ _ (a .pre .1) p _ l)
 
 add-i : tie.Need-add-i Inv-loop μ-loop
 add-i c = omega (arith, tasks-in _ (c .before .before .before .before .before .before .before .before .pre .0) (long (c .before .before .before .before .before .before .before .before)))
@@ -51,7 +51,7 @@ loop-again c =
     let a = c .before .before .before .before .before .before .before .before in
     let p = c .before .before .before .before .before .before .loop .inv in
     let l = c .before .before .before .before .before .loop-test .taken in
-    stand-more _ (a .pre .0) (long a) (a .pre .1) p _ l (c .before .before .put-task .kept .0) (c .before .before .put-task .ensures)
+    stand-more _ (a .pre .0) (long a) _ _ (a .pre .1) p _ l (c .before .before .put-task .kept .0) (c .before .before .put-task .ensures)
 
 same-length : tie.Need-same-length Inv-loop μ-loop
 same-length c = c .before .loop .inv .same
