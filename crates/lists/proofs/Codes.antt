@@ -14,7 +14,7 @@ use Rattle.check_word.specs.Division.{body}
 use Rattle.sheet.specs.Constants.{most-tasks, version-width, policy-width, task-count-width}
 use Rattle.sheet.specs.Tasks.{task-in, records-of, blank-record}
 use Rattle.sheet.specs.Refusals.{number-of, task-of-refusal}
-use Rattle.sheet.specs.Fields.{unpacked}
+use Rattle.records.specs.Rows.{unpacked}
 use Rattle.sheet.specs.Layout.{header-in, tasks-in, records-in, record-width}
 use Rattle.lent.specs.Checks.{Check}
 use Rattle.lent.proofs.Checks.{Each, each-append}
@@ -43,7 +43,7 @@ use Rattle.analysis.specs.declared.Outcome.the-variants.{Refused as not-analyse
 use Rattle.analysis.proofs.Numbering.{number-in}
 use Rattle.sheet.proofs.Carried.{by-reading}
 use Rattle.sheet.proofs.Carried.{reading-answer as answer-read}
-use Rattle.sheet.proofs.Packing.{value-taken}
+use Rattle.records.proofs.Packing.{value-taken}
 use Rattle.sheet.proofs.RecordBits.{length-tasks-in}
 use Rattle.sheet.proofs.Sizes.{admitted-size}
 use Rattle.lists.specs.Lists.{gathered-of}

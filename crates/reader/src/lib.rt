@@ -48,7 +48,7 @@ fn not_found(why: Refusal) -> Found
 // The frame times of a record, and where they end; 0 in the places past them.
 struct Times {
     end: Row,
-    times: [u32; 8],
+    times: [u32; Sheet::FRAME_ROOM],
 }
 
 // The frame times that stand one after another from `at` on.
@@ -56,7 +56,7 @@ fn read_times(body: &[u8], at: usize, count: u32) -> Times
     requires { ⌜ count ≤ most-frames ⌝ }
     ensures { λ r. ⌜ r ≡ times-from (now (body .entry)) at count ⌝ }
 {
-    let mut times = [0u32; 8];
+    let mut times = [0u32; Sheet::FRAME_ROOM];
     let places = Sheet::frame_widths();
     let in_use = count as usize;
     let end = records::take_row(body, at, &places[..in_use], &mut times);
@@ -68,7 +68,7 @@ fn read_record(body: &[u8], at: usize, i: u32) -> Found
     requires { ⌜ length (now body) ≤ greatest-size ⌝ }
     ensures { λ r. ⌜ r ≡ found-at i at (drop at (bits-of (now (body .entry)))) ⌝ }
 {
-    let mut fixed = [0u32; 4];
+    let mut fixed = [0u32; Sheet::FIXED_FIELDS];
     let widths = Sheet::fixed_widths();
     let Row::EndsAt(behind) = records::take_row(body, at, &widths, &mut fixed) else {
         return not_found(Refusal::Records);
@@ -112,7 +112,7 @@ fn read_records(body: &[u8], start: usize, policy: u32, count: u32) -> Reading
     requires { ⌜ (count ≤ most-tasks) × (length (now body) ≤ greatest-size) ⌝ }
     ensures { λ r. ⌜ r ≡ records-reading policy count (drop start (bits-of (now (body .entry)))) ⌝ }
 {
-    let mut tasks = [Task::blank(); 16];
+    let mut tasks = [Task::blank(); Sheet::TASK_ROOM];
     let mut at = start;
     let mut i: u32 = 0;
     while i < count {
@@ -144,7 +144,7 @@ fn read_body(body: &[u8]) -> Reading
     requires { ⌜ (total header-widths ≤ 8 * length (now body)) × (length (now body) ≤ greatest-size) ⌝ }
     ensures { λ r. ⌜ r ≡ body-reading (bits-of (now (body .entry))) ⌝ }
 {
-    let mut header = [0u32; 4];
+    let mut header = [0u32; Sheet::HEADER_FIELDS];
     let widths = Sheet::header_widths();
     let Row::EndsAt(start) = records::take_row(body, 0, &widths, &mut header) else {
         return refused(Refusal::Records);

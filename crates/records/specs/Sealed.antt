@@ -40,4 +40,4 @@ some-set (b ∷ bs) = elim b [ true ↦ true | false ↦ some-set bs ]
 
 -- what the bits behind the last field are: a whole byte or more, fill with a bit set, or nothing but zeros
 unfoldable pub rest-of : List Bool → Rest
-rest-of bits = cond (leb 8 (length bits)) ByteLeft (cond (some-set bits) BitSet Zeros)
+rest-of bits = cond (leb byte-width (length bits)) ByteLeft (cond (some-set bits) BitSet Zeros)

@@ -80,6 +80,11 @@ impl Sheet {
 
     pub const FRAME_ROOM: usize = Sheet::MOST_FRAMES as usize;
 
+    // How many fields the header and the fixed part of a task have.
+    pub const HEADER_FIELDS: usize = 4;
+
+    pub const FIXED_FIELDS: usize = 4;
+
     pub const GREATEST_TIME: u32 = 1_048_575;
 
     pub const LEAST_SIZE: usize = 15;
@@ -120,7 +125,7 @@ impl Sheet {
     }
 
     // The layout, stated once: the fields of the header, of the fixed part of a task, and of its frames, in their order.
-    pub fn header_widths() -> [usize; 4]
+    pub fn header_widths() -> [usize; Sheet::HEADER_FIELDS]
         ensures { λ r. ⌜ r ≡ header-widths ⌝ }
     {
         [
@@ -131,7 +136,7 @@ impl Sheet {
         ]
     }
 
-    pub fn fixed_widths() -> [usize; 4]
+    pub fn fixed_widths() -> [usize; Sheet::FIXED_FIELDS]
         ensures { λ r. ⌜ r ≡ fixed-widths ⌝ }
     {
         [
@@ -143,10 +148,10 @@ impl Sheet {
     }
 
     // As many as a record has places for.
-    pub fn frame_widths() -> [usize; 8]
+    pub fn frame_widths() -> [usize; Sheet::FRAME_ROOM]
         ensures { λ r. ⌜ r ≡ frame-widths most-frames ⌝ }
     {
-        [Sheet::TIME_WIDTH; 8]
+        [Sheet::TIME_WIDTH; Sheet::FRAME_ROOM]
     }
 
     pub fn policies() -> Policies
