@@ -5,13 +5,11 @@ ghost use Prim.Native.Nat.{suc, _<_, _^_, min};
 ghost use lib.ListN.{getD};
 ghost use Rattle.sheet.specs.Constants.{most-tasks};
 ghost use Rattle.sheet.specs.Tasks.{no-record};
-ghost use Rattle.analysis.specs.Answers.{blocker-code};
 ghost use Rattle.lists.specs.Lists.{gathered-of, scattered-of};
 ghost use Rattle.lists.specs.Codes.{refusal-code, written-code, read-code, outcome-code};
 ghost use Rattle.lists.specs.Faces.{list-read, list-filled, list-written, list-left, list-analysed, list-times};
 ghost use Rattle.lists.specs.Inside.Parts.{opened-of, with-record, to-fill, read-answer};
 use analysis::Outcome;
-use order::Blocker;
 use sheet::Answer;
 use sheet::Reading;
 use sheet::Refusal;
@@ -38,7 +36,7 @@ fn opened(policy: u32, n: usize) -> TaskSet
     TaskSet {
         policy: policy,
         task_count: counted(n),
-        tasks: [Task::blank(); 16],
+        tasks: [Task::blank(); Sheet::TASK_ROOM],
     }
 }
 
@@ -165,12 +163,16 @@ pub fn analyse_list(policy: u32, list: &[Task], times: &mut [u32]) -> Outcome
     analysis::analyse_set(gathered(policy, list), times)
 }
 
-// One number for each answer, for C.
+// One number for each answer, for C: refusals below the one, policies below the other.
+const ABOVE_REFUSALS: u32 = 32;
+
+const ABOVE_POLICIES: u32 = 4;
+
 fn refusal_code(why: Refusal) -> u32
     requires { ⌜ refusal-code why < 2 ^ 32 ⌝ }
     ensures { λ r. ⌜ r ≡ refusal-code why ⌝ }
 {
-    why.number() + 32 * why.task()
+    why.number() + ABOVE_REFUSALS * why.task()
 }
 
 fn written_code(written: Written) -> u32
@@ -178,7 +180,7 @@ fn written_code(written: Written) -> u32
     ensures { λ r. ⌜ r ≡ written-code written ⌝ }
 {
     match written {
-        Written::Bytes(n) => 32 * (n as u32),
+        Written::Bytes(n) => ABOVE_REFUSALS * n as u32,
         Written::TurnedAway(why) => refusal_code(why),
     }
 }
@@ -188,17 +190,8 @@ fn read_code(read: ListRead) -> u32
     ensures { λ r. ⌜ r ≡ read-code read ⌝ }
 {
     match read {
-        ListRead::Set(policy, count) => 32 * (policy + 4 * count),
+        ListRead::Set(policy, count) => ABOVE_REFUSALS * (policy + ABOVE_POLICIES * count),
         ListRead::TurnedAway(why) => refusal_code(why),
-    }
-}
-
-fn blocker_code(blocker: Blocker) -> u32
-    ensures { λ r. ⌜ r ≡ blocker-code blocker ⌝ }
-{
-    match blocker {
-        Blocker::At(b) => b,
-        Blocker::Nobody => 16,
     }
 }
 
@@ -208,7 +201,7 @@ fn outcome_code(outcome: Outcome) -> u32
 {
     match outcome {
         Outcome::Holds => 0,
-        Outcome::Missed(p, blocker) => 32 * (100 + 17 * p + blocker_code(blocker)),
+        Outcome::Missed(_, _) => ABOVE_REFUSALS * outcome.code() as u32,
         Outcome::Refused(why) => refusal_code(why),
     }
 }
