@@ -1,8 +1,8 @@
 -- SCOPE.md, "Worked sets": cases A to M as one table, sets in, answers out; and the three refusals that "What is turned away" gives by example.
 use mathlib.Core.List.{List, [], _∷_, _++_, map}
 use mathlib.Core.Path.{_≡_}
-use Prim.Native.Nat.{ℕ, _-_, _*_}
-use lib.ListN.{length, take, replicate}
+use Prim.Native.Nat.{ℕ, _-_}
+use lib.ListN.{length, replicate}
 use Rattle.check_word.specs.Division.{body}
 use Rattle.theory.specs.Tasks.{Task, task-at, start-frame}
 use Rattle.sheet.specs.Constants.{most-frames}
@@ -11,6 +11,7 @@ use Rattle.sheet.specs.Writing.{sheet-of}
 use Rattle.sheet.specs.declared.Refusal.the-variants.{TaskCount, IllFormed, Lock, NotMonotonic}
 use Rattle.order.specs.Order.{priority-order}
 use Rattle.order.specs.declared.Blocker.the-variants.{At, Nobody}
+use Rattle.analysis.specs.Findings.{times-by-number}
 use Rattle.analysis.specs.Answers.{set-analysis}
 use Rattle.analysis.specs.declared.Analysis.{Analysis}
 use Rattle.analysis.specs.declared.Outcome.{Outcome}
@@ -58,7 +59,7 @@ times outcome rows = analysed outcome (in-eights rows)
 
 -- what an analysis says of its set
 unfoldable pub said : Analysis → Answer
-said a = analysed (a .outcome) (take (most-frames * a .«task_count») (a .times))
+said a = analysed (a .outcome) (times-by-number a)
 
 -- what the definitions give in the place of an answer
 unfoldable pub given : Case → Answer → Answer
