@@ -1,5 +1,5 @@
 -- The findings of an ordered set, place by place, while the tasks above grow.
-use mathlib.Core.List.{List, [], _∷_, _++_, map}
+use mathlib.Core.List.{List, [], _∷_, _++_, map, map-append}
 use mathlib.Core.Path.{_≡_, refl, sym, ap, ap₂, _∙_}
 use Prim.Native.Nat.{ℕ, zero, suc, _+_, _-_, _≤_, _<_, min, zero-le}
 use native.Mathlib.Nat.{zero-add}
@@ -21,13 +21,9 @@ use Rattle.analysis.specs.Times.{number-at}
 use Rattle.analysis.specs.Findings.{no-finding, findings-from, findings-of}
 use Rattle.analysis.specs.Inside.Steps.{HasFrames, numbers-of, finding-to}
 use Rattle.analysis.specs.declared.Finding.{Finding}
-use Rattle.analysis.proofs.Filled.{filled, none-filled, length-filled, filled-more, all-filled}
+use Rattle.order.proofs.Filled.{filled, none-filled, length-filled, filled-more, all-filled}
 use Rattle.analysis.proofs.ByPlace.{finding-is-at, length-findings, finding-first}
 use Rattle.analysis.proofs.InUse.{tasks-within, number-is}
-
-map-snoc : {A B : Type 0} (f : A → B) (xs : List A) (a : A) → map f (xs ++ (a ∷ [])) ≡ map f xs ++ (f a ∷ [])
-map-snoc f [] a = refl
-map-snoc f (x ∷ xs) a = ap (_∷_ (f x)) (map-snoc f xs a)
 
 -- after p places: the findings of these, and these tasks above the next
 pub record Grown (o : Ordered) (findings : List Finding) (above : Above) (p : ℕ) : Type 0 where
@@ -50,9 +46,9 @@ above-more set above p r s ec hr hs ea et es =
     rw (
       add-one p,
       take-suc-set (above .tasks) p (record { start = s; task = r }) hr,
-      map-snoc higher-in (take p (above .tasks)) (record { start = s; task = r }),
+      map-append higher-in (take p (above .tasks)) (record { start = s; task = r } ∷ []),
       take-suc set p (record { period = 0; deadline = 0; lock = 0; frames = [] }) hs,
-      map-snoc (λ (t : Task). let x : Higher = record { task = t; start = start-frame t } in x) (take p set) _,
+      map-append (λ (t : Task). let x : Higher = record { task = t; start = start-frame t } in x) (take p set) (_ ∷ []),
     )
     (ap₂ (λ (l : List Higher) (x : Higher). l ++ (x ∷ [])) (ap (λ (n : ℕ). map higher-in (take n (above .tasks))) (sym ec) ∙ ea) last)
   where

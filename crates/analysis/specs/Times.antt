@@ -1,4 +1,4 @@
--- 01, "The analysis", by task numbers: the verdict and the response times.
+-- SCOPE.md, "The analysis", by task numbers: the verdict and the response times.
 use mathlib.Core.Bool.{Bool, true, false}
 use mathlib.Core.List.{List, [], _∷_, _++_}
 use mathlib.Core.Option.{Option, none, some, Option·getD}
@@ -31,7 +31,7 @@ unfoldable pub verdict-number : List ℕ → Verdict → Outcome
 verdict-number order holds = Holds
 verdict-number order (missed p b) = Missed (number-at order p) (blocker-number order b)
 
--- "the answer names the first task in priority order that does not pass, and its blocker"
+-- the set holds, or the first task in priority order that does not pass is named, with its blocker
 unfoldable pub outcome-of : ℕ → List Task → Outcome
 outcome-of policy tasks = verdict-number (priority-order policy tasks) (verdict (ordered-set policy tasks))
 
@@ -40,7 +40,7 @@ unfoldable pub times-from : List Task → ℕ → ℕ → ℕ → List ℕ
 times-from set p k zero = []
 times-from set p k (suc n) = Option·getD (response-of set p k) 0 ∷ times-from set p (suc k) n
 
--- "eight places per task .. frame by frame. Places without a frame hold 0. If a task does not pass, all its eight places hold 0."
+-- eight places for a task's times, frame by frame: 0 where there is no frame, and 0 throughout for a task that does not pass
 unfoldable pub places-by : Bool → List ℕ → List ℕ
 places-by true times = times ++ replicate (most-frames - length times) 0
 places-by false times = replicate most-frames 0
@@ -48,7 +48,7 @@ places-by false times = replicate most-frames 0
 unfoldable pub places-of : List Task → ℕ → List ℕ
 places-of set p = places-by (passes set p) (times-from set p 0 (frame-count (task-at set p)))
 
--- "in task-number order": the places of n tasks, of which the first has number i
+-- the places of n tasks in task-number order, of which the first has number i
 unfoldable pub places-from : List ℕ → List Task → ℕ → ℕ → List ℕ
 places-from order set i zero = []
 places-from order set i (suc n) = places-of set (place-of order i) ++ places-from order set (suc i) n

@@ -35,8 +35,9 @@ pub fn deliver(a: Analysis, times: &mut [u32]) -> Outcome
     }
     for p in 0..count {
         let f = a.findings[p];
+        let number = f.number as usize;
         let row = f.times;
-        put_times(times, WIDTH * (f.number as usize), row);
+        put_times(times, WIDTH * number, row);
     }
     a.outcome
 }

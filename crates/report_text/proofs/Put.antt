@@ -1,4 +1,4 @@
--- Laws of text written into a buffer: one byte, a word byte by byte, text behind text.
+-- Laws of text written into a buffer: one byte, a word, text behind text.
 use mathlib.Core.List.{List, [], _∷_, _++_, append-assoc}
 use mathlib.Core.Path.{_≡_, refl, sym, ap, ap₂, _∙_}
 use Prim.Native.Nat.{ℕ, suc, _+_, _≤_, _<_}
@@ -6,7 +6,8 @@ use native.Mathlib.Nat.{add-zero}
 use native.Mathlib.Numerals.{add-one}
 use native.Mathlib.Omega.{arith}
 use lib.ListN.{length, getD, take, drop, set, length-append, length-take, length-drop}
-use lib.Seq.{set-split, append-snoc, take-at, drop-at, drop-drop, take-all, length-take-le, paste, paste-zero, paste-suc, length-paste}
+use lib.Seq.{set-split, append-snoc, take-at, drop-at, drop-drop, length-take-le, paste-zero}
+use Rattle.analysis.proofs.ByNumber.{put, all-put}
 use Rattle.report_text.specs.Inside.TextPut.{TextPut}
 
 pub put-one : (b : List ℕ) (at x : ℕ) → at < length b → TextPut b at (x ∷ []) (set b at x) (at + 1)
@@ -57,28 +58,6 @@ module _ {b : List ℕ} {at : ℕ} {s c : List ℕ} {m : ℕ} {t d : List ℕ} {
           ∙ drop-drop (length t) (at + length s) b
           ∙ ap (λ (k : ℕ). drop k b) far
 
--- ---- a word byte by byte
-
-pub copied : List ℕ → ℕ → List ℕ → ℕ → List ℕ
-copied b at s i = paste b at s i
-
-pub none-copied : (b : List ℕ) (at : ℕ) (s : List ℕ) → b ≡ copied b at s 0
-unfolding copied
-none-copied b at s = paste-zero b at s
-
-module _ (b : List ℕ) (at : ℕ) (s : List ℕ) (i : ℕ) (room : at + length s ≤ length b) where
-  pub length-copied : i ≤ length s → length (copied b at s i) ≡ length b
-  unfolding copied
-  length-copied h = length-paste b at s i (omega arith) h
-
-  pub more-copied : i < length s → set (copied b at s i) (at + i) (getD s i 0) ≡ copied b at s (i + 1)
-  unfolding copied
-  more-copied h = rw (add-one i) (paste-suc b at s i 0 (omega arith) h)
-
-  pub all-copied : i ≤ length s → length s ≤ i → TextPut b at s (copied b at s i) (at + length s)
-  unfolding copied
-  all-copied l h =
-      record {
-        holds = ap₂ (λ (x : List ℕ) (n : ℕ). take at b ++ x ++ drop (at + n) b) (take-all i s h) (omega arith);
-        ends = refl;
-      }
+-- a word put byte by byte is put
+pub all-copied : (b : List ℕ) (at : ℕ) (s : List ℕ) (i : ℕ) → at + length s ≤ length b → i ≤ length s → length s ≤ i → TextPut b at s (put b at s i) (at + length s)
+all-copied b at s i room l h = record { holds = all-put b at s (length s) room refl i (omega arith); ends = refl }

@@ -37,8 +37,8 @@ mul-f c = search needs
 element-copy-out-f : tie.Need-element-copy-out-f Inv-loop μ-loop
 element-copy-out-f c = omega (arith, c .before .before .before .before .pre .few)
 
-cast-put-times : tie.Need-cast-put-times Inv-loop μ-loop
-cast-put-times c = search needs
+cast-number : tie.Need-cast-number Inv-loop μ-loop
+cast-number c = search needs
 
 mul-put-times : tie.Need-mul-put-times Inv-loop μ-loop
 mul-put-times c =
@@ -90,7 +90,7 @@ deliver-spec =
     loop-holds
     mul-f
     element-copy-out-f
-    cast-put-times
+    cast-number
     mul-put-times
     put-times-requires
     add-p

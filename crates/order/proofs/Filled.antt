@@ -10,7 +10,7 @@ use lib.Seq.{take-suc, take-all, set-at, append-snoc}
 
 module _ {A : Type 0} (m : ℕ) (blank : A) (xs : List A) where
   -- the first i of xs, blank behind them
-  pub filled : ℕ → List A
+  unfoldable pub filled : ℕ → List A
   filled i = take i xs ++ replicate (m - i) blank
 
   pub none-filled : replicate m blank ≡ filled 0
