@@ -1,6 +1,6 @@
 -- Where each time stands: the eight places of task i begin at place 8i.
 use mathlib.Core.Bool.{Bool, true, false}
-use mathlib.Core.List.{List, [], _∷_, _++_}
+use mathlib.Core.List.{List, _++_}
 use mathlib.Core.Option.{Option, Option·getD}
 use mathlib.Core.Path.{_≡_, refl, sym, ap, _∙_}
 use Prim.Native.Nat.{ℕ, zero, suc, _+_, _-_, _*_, _≤_, _<_}
@@ -23,7 +23,7 @@ module _ (set : List Task) (p : ℕ) where
   length-times k zero = refl
   length-times k (suc n) = ap suc (length-times (suc k) n)
 
-  time-in : (k n j : ℕ) → j < n → getD (times-from set p k n) j 0 ≡ Option·getD (response-of set p (k + j)) 0
+  pub time-in : (k n j : ℕ) → j < n → getD (times-from set p k n) j 0 ≡ Option·getD (response-of set p (k + j)) 0
   unfolding times-from
   time-in k zero j h = let z : ⊥ = omega arith in absurd z
   time-in k (suc n) zero h = rw (add-zero k)
@@ -39,6 +39,17 @@ module _ (set : List Task) (p : ℕ) where
   time-of-passing e k h =
       rw e (List·getD-append (times-from set p 0 (frame-count (task-at set p))) _ 0 k (rw (length-times 0 (frame-count (task-at set p))) h)
       ∙ time-in 0 (frame-count (task-at set p)) k h ∙ ap (λ (m : ℕ). Option·getD (response-of set p m) 0) (zero-add k))
+
+  -- behind its frames
+  pub time-behind : passes set p ≡ true → (k : ℕ) → frame-count (task-at set p) ≤ k → k < 8 → getD (places-of set p) k 0 ≡ 0
+  unfolding places-of places-by
+  time-behind e k h l =
+      let times : List ℕ = times-from set p 0 (frame-count (task-at set p)) in
+      let long : length times ≡ frame-count (task-at set p) = length-times 0 (frame-count (task-at set p)) in
+      let at : length times + (k - length times) ≡ k = omega arith in
+      rw e (ap (λ (m : ℕ). getD (times ++ replicate (8 - length times) 0) m 0) (sym at)
+      ∙ getD-append-add times (replicate (8 - length times) 0) (k - length times) 0
+      ∙ getD-replicate (8 - length times) (k - length times) 0 0 (omega arith))
 
   -- one that does not
   pub time-of-missed : passes set p ≡ false → (k : ℕ) → k < 8 → getD (places-of set p) k 0 ≡ 0
