@@ -74,13 +74,19 @@ inverted-at : (i : ℕ) (bs : List Bool) → i < length bs → getD (inverted i 
 unfolding inverted
 inverted-at i bs h = getD-set-same bs i (not (getD bs i false)) false h
 
+-- A string of which one bit was inverted is the same in all other bits, and is another string.
+pub inverted-elsewhere : (s : List ℕ) (i : ℕ) → AgreeOutside i 16 (bits-of s) (bits-of (with-bit-inverted i s))
+inverted-elsewhere s i = rw (bits-inverted s i) (inverted-agree i (bits-of s))
+
+pub inverted-differs : (s : List ℕ) (i : ℕ) → i < 8 * length s → ¬ (s ≡ with-bit-inverted i s)
+inverted-differs s i h e =
+    not-self (getD (bits-of s) i false)
+    (sym (inverted-at i (bits-of s) (rw (length-bits s) h))
+    ∙ ap (λ (r : List Bool). getD r i false) (sym (bits-inverted s i) ∙ ap bits-of (sym e)))
+
 -- A sealed byte string of which one bit was inverted, whichever, is not sealed.
 pub detects-one-bit : (s : List ℕ) (i : ℕ) → Bytes s → i < 8 * length s → sealed s ≡ true → sealed (with-bit-inverted i s) ≡ false
 unfolding with-bit-inverted
 detects-one-bit s i hs h es =
     detects-burst s (with-bit-inverted i s) i hs (bytes-are-bytes (length s) (inverted i (bits-of s)))
-    (sym (length-bytes (length s) (inverted i (bits-of s)))) es
-    (rw (bits-inverted s i) (inverted-agree i (bits-of s)))
-    (λ e. not-self (getD (bits-of s) i false)
-    (sym (inverted-at i (bits-of s) (rw (length-bits s) h))
-    ∙ ap (λ (r : List Bool). getD r i false) (sym (bits-inverted s i) ∙ ap bits-of (sym e))))
+    (sym (length-bytes (length s) (inverted i (bits-of s)))) es (inverted-elsewhere s i) (inverted-differs s i h)

@@ -13,11 +13,11 @@ use Rattle.report_text.specs.Inside.TextPut.{TextPut}
 use Rattle.report_text.proofs.Put.{put-then}
 use Rattle.report_text.specs.Words.{decimal-of, decimal}
 
-of-small : (k n : ℕ) → n < 10 → decimal-of (suc k) n ≡ (48 + n) ∷ []
+pub of-small : (k n : ℕ) → n < 10 → decimal-of (suc k) n ≡ (48 + n) ∷ []
 unfolding decimal-of
 of-small k n h = rw (lt-ltb n 10 h, decimal-of)
 
-of-large : (k n : ℕ) → 10 ≤ n → decimal-of (suc k) n ≡ decimal-of k (n / 10) ++ ((48 + n % 10) ∷ [])
+pub of-large : (k n : ℕ) → 10 ≤ n → decimal-of (suc k) n ≡ decimal-of k (n / 10) ++ ((48 + n % 10) ∷ [])
 unfolding decimal-of
 of-large k n h = rw (le-ltb n 10 h, decimal-of)
 
