@@ -1,0 +1,11 @@
+-- The theorems are in Signed; the rest stands below it.
+pub mod Times
+pub mod Numbers
+pub mod Memory
+pub mod Doors
+pub mod Promised
+pub mod RoundTrip
+pub mod Damage
+pub mod Words
+pub mod Report
+pub mod Signed

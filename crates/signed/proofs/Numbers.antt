@@ -1,0 +1,149 @@
+-- A number says one thing: each answer comes back from its number.
+use mathlib.Core.Bool.{true, false}
+use mathlib.Core.Path.{_≡_, refl, ap, ap₂, _∙_}
+use Prim.Native.Nat.{ℕ, _+_, _-_, _*_, _/_, _%_, _≤_, _<_}
+use native.Mathlib.Omega.{arith}
+use borrow.Author.Tests.{lt-ltb, le-ltb, eq-eqb, ne-eqb}
+use lib.Dec.{eqb, lit≤}
+use Rattle.sheet.specs.Constants.{most-tasks}
+use Rattle.sheet.specs.Refusals.{number-of, task-of-refusal}
+use Rattle.sheet.specs.declared.Refusal.{Refusal}
+use Rattle.sheet.specs.declared.Refusal.the-variants.{Length, CheckWord, Version, Policy, BitSet, TaskCount, FrameCount, Records, IllFormed, Lock, NotMonotonic, Room}
+use Rattle.sheet.specs.declared.Written.{Written}
+use Rattle.sheet.specs.declared.Written.the-variants.{Bytes}
+use Rattle.sheet.specs.declared.Written.the-variants.{TurnedAway as not-written}
+use Rattle.order.specs.declared.Blocker.{Blocker}
+use Rattle.order.specs.declared.Blocker.the-variants.{At, Nobody}
+use Rattle.analysis.specs.Answers.{blocker-code, code}
+use Rattle.analysis.specs.declared.Outcome.{Outcome}
+use Rattle.analysis.specs.declared.Outcome.the-variants.{Holds, Missed}
+use Rattle.analysis.specs.declared.Outcome.the-variants.{Refused as not-analysed}
+use Rattle.lists.specs.Codes.{above-refusals, above-policies, refusal-code, read-code, written-code, outcome-code}
+use Rattle.lists.specs.declared.ListRead.{ListRead}
+use Rattle.lists.specs.declared.ListRead.the-variants.{Set}
+use Rattle.lists.specs.declared.ListRead.the-variants.{TurnedAway as not-read}
+use Rattle.signed.specs.Claims.{missed, refused, said}
+use Rattle.signed.specs.Numbers.{blocker-by, said-by, refusal-by, refused-by, read-by, written-by, verdict-by, outcome-by}
+
+-- ---- refusals
+
+pub refusal-range : (r : Refusal) → (1 ≤ number-of r) × (number-of r ≤ 12)
+refusal-range Length = (lit≤ tt, lit≤ tt)
+refusal-range CheckWord = (lit≤ tt, lit≤ tt)
+refusal-range Version = (lit≤ tt, lit≤ tt)
+refusal-range Policy = (lit≤ tt, lit≤ tt)
+refusal-range BitSet = (lit≤ tt, lit≤ tt)
+refusal-range TaskCount = (lit≤ tt, lit≤ tt)
+refusal-range (FrameCount i) = (lit≤ tt, lit≤ tt)
+refusal-range Records = (lit≤ tt, lit≤ tt)
+refusal-range (IllFormed i) = (lit≤ tt, lit≤ tt)
+refusal-range (Lock i) = (lit≤ tt, lit≤ tt)
+refusal-range (NotMonotonic i) = (lit≤ tt, lit≤ tt)
+refusal-range Room = (lit≤ tt, lit≤ tt)
+
+refusal-back : (r : Refusal) → refusal-by (number-of r) (task-of-refusal r) ≡ r
+unfolding refusal-by
+refusal-back Length = refl
+refusal-back CheckWord = refl
+refusal-back Version = refl
+refusal-back Policy = refl
+refusal-back BitSet = refl
+refusal-back TaskCount = refl
+refusal-back (FrameCount i) = refl
+refusal-back Records = refl
+refusal-back (IllFormed i) = refl
+refusal-back (Lock i) = refl
+refusal-back (NotMonotonic i) = refl
+refusal-back Room = refl
+
+-- ---- the blocker
+
+-- a blocker that is named is below sixteen
+abbrev pub Few : Blocker → Type 0
+Few b = (q : ℕ) → b ≡ At q → q < most-tasks
+
+blocker-back : (b : Blocker) → Few b → (blocker-by (blocker-code b) ≡ b) × (blocker-code b ≤ 16)
+unfolding blocker-by
+blocker-back (At q) h = let l = h q refl in (rw (ne-eqb q 16 (omega arith)), omega arith)
+blocker-back Nobody h = (refl, lit≤ tt)
+
+-- an outcome whose blocker is
+unfoldable pub FewOf : Outcome → Type 0
+FewOf Holds = Unit {0}
+FewOf (Missed p b) = Few b
+FewOf (not-analysed why) = Unit {0}
+
+module _ (p c : ℕ) (h : c ≤ 16) where
+  less : 100 + 17 * p + c - 100 ≡ 17 * p + c
+  less = omega arith
+
+  quotient : (17 * p + c) / 17 ≡ p
+  quotient = omega arith
+
+  rest : (17 * p + c) % 17 ≡ c
+  rest = omega arith
+
+-- ---- `burrbeech_check_sheet`
+
+pub miss-said : (p c : ℕ) → c ≤ 16 → said-by (100 + 17 * p + c) ≡ missed p (blocker-by c)
+unfolding said-by
+miss-said p c h =
+    rw (ne-eqb (100 + 17 * p + c) 0 (omega arith), le-ltb (100 + 17 * p + c) 100 (omega arith), less p c h, quotient p c h, rest p c h)
+
+pub refusal-said : (c : ℕ) → 1 ≤ c → c ≤ 12 → said-by c ≡ refused c
+unfolding said-by
+refusal-said c l h = rw (ne-eqb c 0 (omega arith), lt-ltb c 100 (omega arith))
+
+pub said-back : (o : Outcome) → FewOf o → said-by (code o) ≡ said o
+unfolding said said-by FewOf
+said-back Holds h = refl
+said-back (Missed p b) h = let (same, small) = blocker-back b h in miss-said p (blocker-code b) small ∙ ap (missed p) same
+said-back (not-analysed r) h = let (l, m) = refusal-range r in refusal-said (number-of r) l m
+
+-- ---- the list entries
+
+-- a number with a refusal in it, and one with none
+module _ (r : Refusal) where
+  with-refusal : eqb (refusal-code r % above-refusals) 0 ≡ false
+  with-refusal = let range = refusal-range r in ne-eqb (refusal-code r % above-refusals) 0 (omega arith)
+
+  refused-back : refused-by (refusal-code r) ≡ r
+  unfolding refused-by
+  refused-back =
+      let range = refusal-range r in
+      let low : refusal-code r % above-refusals ≡ number-of r = omega arith in
+      let high : refusal-code r / above-refusals ≡ task-of-refusal r = omega arith in
+      ap₂ refusal-by low high ∙ refusal-back r
+
+module _ (m : ℕ) where
+  with-none : eqb (above-refusals * m % above-refusals) 0 ≡ true
+  with-none = eq-eqb (above-refusals * m % above-refusals) 0 (omega arith)
+
+  detail : above-refusals * m / above-refusals ≡ m
+  detail = omega arith
+
+pub written-back : (w : Written) → written-by (written-code w) ≡ w
+unfolding written-by
+written-back (Bytes n) = rw (with-none n, detail n)
+written-back (not-written r) = rw (with-refusal r) (ap not-written (refused-back r))
+
+pub read-back : (x : ListRead) → ((policy count : ℕ) → x ≡ Set policy count → policy < above-policies) → read-by (read-code x) ≡ x
+unfolding read-by
+read-back (Set policy count) h =
+    let small = h policy count refl in
+    let low : (policy + above-policies * count) % above-policies ≡ policy = omega arith in
+    let high : (policy + above-policies * count) / above-policies ≡ count = omega arith in
+    rw (with-none (policy + above-policies * count), detail (policy + above-policies * count), low, high)
+read-back (not-read r) h = rw (with-refusal r) (ap not-read (refused-back r))
+
+miss-back : (p c : ℕ) → c ≤ 16 → verdict-by (100 + 17 * p + c) ≡ Missed p (blocker-by c)
+unfolding verdict-by
+miss-back p c h = rw (ne-eqb (100 + 17 * p + c) 0 (omega arith), less p c h, quotient p c h, rest p c h)
+
+pub outcome-back : (o : Outcome) → FewOf o → outcome-by (outcome-code o) ≡ o
+unfolding outcome-by verdict-by FewOf
+outcome-back Holds h = refl
+outcome-back (Missed p b) h =
+    let (same, small) = blocker-back b h in
+    rw (with-none (100 + 17 * p + blocker-code b), detail (100 + 17 * p + blocker-code b)) (miss-back p (blocker-code b) small ∙ ap (Missed p) same)
+outcome-back (not-analysed r) h = rw (with-refusal r) (ap not-analysed (refused-back r))

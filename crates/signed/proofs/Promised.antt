@@ -1,0 +1,113 @@
+-- What an entry that analyses has answered and left keeps what we sign for.
+use mathlib.Core.List.{List, [], _∷_}
+use mathlib.Core.Logic.{_⊎_, inl, inr}
+use mathlib.Core.Path.{_≡_, refl, subst}
+use Prim.Native.Nat.{ℕ, zero, suc, _+_, _*_, _/_, _%_, _^_, _≤_, _<_}
+use native.Mathlib.Decide.{decLt}
+use native.Mathlib.Omega.{arith}
+use lib.ListN.{length, getD}
+use Rattle.theory.specs.Tasks.{Task, task-at, frame-count, deadline-of}
+use Rattle.lent.specs.Lent.{laid}
+use Rattle.sheet.specs.Constants.{most-tasks}
+use Rattle.sheet.specs.Refusals.{number-of}
+use Rattle.sheet.proofs.InFields.{Each, no-task, task-more, InFields}
+use Rattle.sheet.proofs.Carried.{carried-fit}
+use Rattle.order.specs.declared.Blocker.the-variants.{At, Nobody}
+use Rattle.analysis.specs.Times.{outcome-of, times-of}
+use Rattle.analysis.specs.Answers.{code}
+use Rattle.analysis.specs.declared.Outcome.{Outcome}
+use Rattle.analysis.specs.declared.Outcome.the-variants.{Holds, Missed, Refused}
+use Rattle.analysis.proofs.Entries.{few, times-long}
+use Rattle.analysis.proofs.Promises.{outcome-not-refused}
+use Rattle.signed.specs.Claims.{said, Kept, time-in, Timed, Untimed, Signed}
+use Rattle.signed.specs.Numbers.{IsNumber, it-holds, it-refuses, task-misses, task-misses-alone}
+use Rattle.signed.proofs.Times.{each, signed}
+use Rattle.signed.proofs.Numbers.{refusal-range, FewOf}
+use Rattle.signed.proofs.Memory.{stored, time-laid, surplus-kept}
+use Rattle.signed.proofs.Doors.{Sound, Analysed, is-refused, is-analysed}
+
+module _ (policy : ℕ) (tasks : List Task) (sound : Sound policy tasks) where
+  eight : (i : ℕ) → frame-count (task-at tasks i) ≤ 8
+  eight = few tasks (sound .carried .counted)
+
+  long : length (times-of policy tasks) ≡ 8 * length tasks
+  long = times-long policy tasks (sound .carried .counted)
+
+  -- a time is within a deadline, and so small
+  deadline-small : (ts : List Task) → Each InFields ts → (i k : ℕ) → i < length ts → deadline-of (task-at ts i) k < 2 ^ 32
+  unfolding task-at deadline-of
+  deadline-small [] no-task i k h = let z : ⊥ = omega arith in absurd z
+  deadline-small (t ∷ ts) (task-more f fs) zero k h = omega (arith, f .deadline-fits)
+  deadline-small (t ∷ ts) (task-more f fs) (suc i) k h = deadline-small ts fs i k (omega arith)
+
+  times-small : (j : ℕ) → j < length (times-of policy tasks) → getD (times-of policy tasks) j 0 < 2 ^ 32
+  times-small j h = subst (λ (m : ℕ). getD (times-of policy tasks) m 0 < 2 ^ 32) here (go (each policy tasks (sound .admitted) eight (λ m. getD (times-of policy tasks) m 0) (λ m l. refl) (j / 8) inside))
+    where
+      here : 8 * (j / 8) + j % 8 ≡ j
+      here = omega arith
+
+      inside : j / 8 < length tasks
+      inside = omega (arith, long)
+
+      go : Timed policy tasks (λ m. getD (times-of policy tasks) m 0) (j / 8) ⊎ Untimed policy tasks (λ m. getD (times-of policy tasks) m 0) (j / 8)
+          → getD (times-of policy tasks) (8 * (j / 8) + j % 8) 0 < 2 ^ 32
+      go (inr u) = omega (arith, u .zeros (j % 8) (omega arith))
+      go (inl t) = framed (decLt (j % 8) (frame-count (task-at tasks (j / 8))))
+        where
+          framed : Dec (j % 8 < frame-count (task-at tasks (j / 8))) → getD (times-of policy tasks) (8 * (j / 8) + j % 8) 0 < 2 ^ 32
+          framed (yes l) = omega (arith, t .worst (j % 8) l .least .within, deadline-small tasks (carried-fit (sound .carried)) (j / 8) (j % 8) inside)
+          framed (no l) = omega (arith, t .no-frame (j % 8) (omega arith) (omega arith))
+
+  -- the times that stand in memory
+  pub laid-signed : (kept : Kept) (before : List ℕ) → length (stored kept (times-of policy tasks)) ≤ length before
+      → Signed policy tasks kept before (laid (stored kept (times-of policy tasks)) before) (said (outcome-of policy tasks))
+  laid-signed kept before fits =
+      signed policy tasks (sound .admitted) eight
+      (time-in kept (laid (stored kept (times-of policy tasks)) before))
+      (λ j h. time-laid kept (times-of policy tasks) before times-small j (omega (arith, long)))
+      kept before _ refl
+      (surplus-kept kept (times-of policy tasks) before (length tasks) long fits)
+
+-- a blocker that is named is one of at most sixteen tasks
+few-said : (policy : ℕ) (tasks : List Task) (kept : Kept) (before after : List ℕ) (outcome : Outcome)
+    → length tasks ≤ most-tasks → Signed policy tasks kept before after (said outcome) → FewOf outcome
+unfolding Signed said FewOf
+few-said policy tasks kept before after Holds h s = tt
+few-said policy tasks kept before after (Missed p b) h s = λ q e. omega (arith, s .0 .blocker-in-set q e)
+few-said policy tasks kept before after (Refused why) h s = tt
+
+module _ {policy : ℕ} {tasks : List Task} {kept : Kept} {before : List ℕ} where
+  pub promised : {outcome : Outcome} {after : List ℕ} → Analysed policy tasks kept before outcome after → Signed policy tasks kept before after (said outcome)
+  unfolding Signed said
+  promised (is-refused why) = (refusal-range why .0, refusal-range why .1, refl)
+  promised (is-analysed sound fits) = laid-signed policy tasks sound kept before fits
+
+  pub few-of : {outcome : Outcome} {after : List ℕ} → Analysed policy tasks kept before outcome after → FewOf outcome
+  unfolding FewOf
+  few-of (is-refused why) = tt
+  few-of (is-analysed sound fits) =
+      few-said policy tasks kept before _ (outcome-of policy tasks) (sound .carried .few-tasks) (laid-signed policy tasks sound kept before fits)
+
+-- the number of a set's outcome is not from 1 to 12
+pub outcome-number : (policy : ℕ) (tasks : List Task) → 1 ≤ code (outcome-of policy tasks) → ¬ (code (outcome-of policy tasks) ≤ 12)
+outcome-number policy tasks l h = go (outcome-of policy tasks) refl l h
+  where
+    go : (o : Outcome) → outcome-of policy tasks ≡ o → 1 ≤ code o → ¬ (code o ≤ 12)
+    go Holds e l h = omega arith
+    go (Missed p b) e l h = omega arith
+    go (Refused why) e l h = outcome-not-refused policy tasks why e
+
+-- the number of an outcome that is so
+pub number-given : (policy : ℕ) (tasks : List Task) (kept : Kept) (before after : List ℕ) (outcome : Outcome)
+    → Signed policy tasks kept before after (said outcome) → IsNumber (length tasks) (code outcome)
+unfolding Signed said
+number-given policy tasks kept before after Holds s = it-holds
+number-given policy tasks kept before after (Missed p (At q)) s = task-misses p q (s .0 .in-set) (s .0 .blocker-in-set q refl)
+number-given policy tasks kept before after (Missed p Nobody) s = task-misses-alone p (s .0 .in-set)
+number-given policy tasks kept before after (Refused why) s = it-refuses (number-of why) (s .0) (s .1)
+
+-- a number from 1 to 12 is that of a refusal
+pub number-refused : {policy : ℕ} {tasks : List Task} {kept : Kept} {before after : List ℕ} {outcome : Outcome} → Analysed policy tasks kept before outcome after
+    → 1 ≤ code outcome → code outcome ≤ 12 → after ≡ before
+number-refused (is-refused why) l h = refl
+number-refused {policy} {tasks} (is-analysed sound fits) l h = absurd (outcome-number policy tasks l h)

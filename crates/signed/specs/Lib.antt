@@ -1,0 +1,5 @@
+-- What we sign for: calls of the entries, what they answer, and the claims of the theorems in proofs/Signed.antt.
+pub mod Calls
+pub mod Claims
+pub mod Numbers
+pub mod Reports

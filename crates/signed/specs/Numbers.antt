@@ -1,0 +1,66 @@
+-- What the numbers say that C gets: the answer, computed from the number alone.
+use mathlib.Core.Bool.{cond}
+use mathlib.Core.List.{[], _∷_}
+use Prim.Native.Nat.{ℕ, _+_, _-_, _*_, _/_, _%_, _≤_, _<_}
+use lib.Dec.{ltb, eqb}
+use lib.ListN.{getD}
+use Rattle.sheet.specs.Constants.{most-tasks}
+use Rattle.sheet.specs.declared.Refusal.{Refusal}
+use Rattle.sheet.specs.declared.Refusal.the-variants.{Length, CheckWord, Version, Policy, BitSet, TaskCount, FrameCount, Records, IllFormed, Lock, NotMonotonic, Room}
+use Rattle.sheet.specs.declared.Written.{Written}
+use Rattle.sheet.specs.declared.Written.the-variants.{Bytes}
+use Rattle.sheet.specs.declared.Written.the-variants.{TurnedAway as not-written}
+use Rattle.order.specs.declared.Blocker.{Blocker}
+use Rattle.order.specs.declared.Blocker.the-variants.{At, Nobody}
+use Rattle.analysis.specs.Answers.{first-miss, blockers}
+use Rattle.analysis.specs.declared.Outcome.{Outcome}
+use Rattle.analysis.specs.declared.Outcome.the-variants.{Holds, Missed}
+use Rattle.analysis.specs.declared.Outcome.the-variants.{Refused as not-analysed}
+use Rattle.lists.specs.Codes.{above-refusals, above-policies}
+use Rattle.lists.specs.declared.ListRead.{ListRead}
+use Rattle.lists.specs.declared.ListRead.the-variants.{Set}
+use Rattle.lists.specs.declared.ListRead.the-variants.{TurnedAway as not-read}
+use Rattle.signed.specs.Claims.{Said, holds, missed, refused}
+
+-- 16 stands for no blocker
+unfoldable pub blocker-by : ℕ → Blocker
+blocker-by b = cond (eqb b most-tasks) Nobody (At b)
+
+-- `burrbeech_check_sheet`: 0 for holds, below 100 a refusal, else 100 + 17p + b
+unfoldable pub said-by : ℕ → Said
+said-by c = cond (eqb c 0) holds (cond (ltb c first-miss) (refused c) (missed ((c - first-miss) / blockers) (blocker-by ((c - first-miss) % blockers))))
+
+-- the numbers that `burrbeech_check_sheet` gives for n tasks
+pub data IsNumber (n : ℕ) : ℕ → Type 0 where
+  it-holds : IsNumber n 0
+  it-refuses : (c : ℕ) → 1 ≤ c → c ≤ 12 → IsNumber n c
+  task-misses : (p b : ℕ) → p < n → b < n → IsNumber n (100 + 17 * p + b)
+  task-misses-alone : (p : ℕ) → p < n → IsNumber n (100 + 17 * p + 16)
+
+-- the refusal with a number from 1 to 12, of task i where it has one
+unfoldable pub refusal-by : ℕ → ℕ → Refusal
+refusal-by number i =
+    getD
+    (Length ∷ CheckWord ∷ Version ∷ Policy ∷ BitSet ∷ TaskCount ∷ FrameCount i ∷ Records ∷ IllFormed i ∷ Lock i ∷ NotMonotonic i ∷ Room ∷ [])
+    (number - 1) Room
+
+-- the list entries: the refusal's number or 0, and above it what else is answered
+unfoldable pub refused-by : ℕ → Refusal
+refused-by c = refusal-by (c % above-refusals) (c / above-refusals)
+
+-- `burrbeech_read_list`: the policy, and above it the task count
+unfoldable pub read-by : ℕ → ListRead
+read-by c =
+    let detail = c / above-refusals in
+    cond (eqb (c % above-refusals) 0) (Set (detail % above-policies) (detail / above-policies)) (not-read (refused-by c))
+
+-- `burrbeech_write_list`: the bytes written
+unfoldable pub written-by : ℕ → Written
+written-by c = cond (eqb (c % above-refusals) 0) (Bytes (c / above-refusals)) (not-written (refused-by c))
+
+-- `burrbeech_analyse_list`: 0 for holds, else 100 + 17p + b
+unfoldable pub verdict-by : ℕ → Outcome
+verdict-by m = cond (eqb m 0) Holds (Missed ((m - first-miss) / blockers) (blocker-by ((m - first-miss) % blockers)))
+
+unfoldable pub outcome-by : ℕ → Outcome
+outcome-by c = cond (eqb (c % above-refusals) 0) (verdict-by (c / above-refusals)) (not-analysed (refused-by c))

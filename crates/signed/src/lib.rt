@@ -1,0 +1,1 @@
+// No code: what we sign for in specs/, its theorems in proofs/.
