@@ -1,8 +1,8 @@
 -- The returns of the reader's parts, one law for each, by the tests that lead there.
 use mathlib.Core.Bool.{Bool, true, false, not}
 use mathlib.Core.List.{List, [], _∷_, _++_}
-use mathlib.Core.Path.{_≡_, refl, sym, ap, ap₂, _∙_}
-use Prim.Native.Nat.{ℕ, zero, suc, _+_, _-_, _*_, _≤_, _<_}
+use mathlib.Core.Path.{_≡_, sym, ap, ap₂, _∙_}
+use Prim.Native.Nat.{ℕ, _+_, _-_, _*_, _≤_, _<_}
 use native.Mathlib.Nat.{add-assoc}
 use native.Mathlib.Omega.{arith}
 use borrow.Author.Tests.{lt-ltb, le-ltb, eq-eqb, ne-eqb}
@@ -14,7 +14,7 @@ use Rattle.bits.proofs.Laws.{length-bits}
 use Rattle.lent.specs.Checks.{Check, _⇒_}
 use Rattle.lent.specs.Lent.{laid}
 use Rattle.records.specs.Rows.{unpacked, total}
-use Rattle.records.specs.Faces.{last-position, lawful, ends, row-has-places, taken-row}
+use Rattle.records.specs.Faces.{last-position, ends, row-has-places, taken-row}
 use Rattle.records.specs.declared.Row.{Row}
 use Rattle.records.specs.declared.Row.the-variants.{EndsAt, Untouched}
 use Rattle.records.proofs.Looking.{row-found, row-missing, row-numbers}
@@ -22,8 +22,8 @@ use Rattle.records.proofs.Parts.{laid-whole, take-replicate, drop-replicate}
 use Rattle.records.proofs.Packing.{length-unpacked, total-replicate}
 use Rattle.sheet.specs.Constants.{the-version, time-width, most-tasks, most-frames, greatest-size}
 use Rattle.sheet.specs.Fields.{header-widths, fixed-widths, frame-widths}
-use Rattle.sheet.specs.Tasks.{record-of, set-with}
-use Rattle.sheet.specs.Layout.{header-in, records-in, frame-count-in, record-width, task-at-start, tasks-in}
+use Rattle.sheet.specs.Tasks.{record-of}
+use Rattle.sheet.specs.Layout.{header-in, records-in, frame-count-in, record-width, task-at-start}
 use Rattle.sheet.specs.Admission.{decided, known-policy, miscounted, policy-check, task-count-check, frame-count-check}
 use Rattle.sheet.specs.Reading.{layout-checks}
 use Rattle.sheet.proofs.Checks.{applies, passed-over, no-check}
@@ -33,7 +33,6 @@ use Rattle.sheet.specs.declared.Answer.{Answer}
 use Rattle.sheet.specs.declared.Answer.the-variants.{Admitted, Refused}
 use Rattle.sheet.specs.declared.Refusal.{Refusal}
 use Rattle.sheet.specs.declared.Refusal.the-variants.{Version, Policy, BitSet, TaskCount, FrameCount, Records}
-use Rattle.sheet.specs.declared.Task.{Task as Record}
 use Rattle.reader.specs.Inside.Parts.{turned-away, reading-of, times-from, record-checks, nothing-found, found-by, found-at, records-reading, body-checks, set-in, body-reading}
 use Rattle.reader.specs.declared.Found.{Found}
 use Rattle.reader.specs.declared.Times.{Times}

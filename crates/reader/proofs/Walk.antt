@@ -1,11 +1,10 @@
 -- The walk over the records: after i of them, where the next one starts, what was read, and what is still to be checked.
-use mathlib.Core.Bool.{Bool, true, false}
+use mathlib.Core.Bool.{Bool}
 use mathlib.Core.List.{List, [], _∷_, _++_, map}
 use mathlib.Core.Path.{_≡_, refl, sym, ap, ap₂, _∙_}
-use Prim.Native.Nat.{ℕ, zero, suc, _+_, _-_, _*_, _≤_, _<_}
+use Prim.Native.Nat.{ℕ, zero, suc, _+_, _-_, _≤_, _<_}
 use native.Mathlib.Numerals.{add-one}
 use native.Mathlib.Omega.{arith}
-use borrow.Author.Tests.{ltb-false}
 use lib.ListN.{length, drop, set, replicate, length-map}
 use lib.Seq.{drop-drop}
 use Rattle.bits.specs.Packed.{bits-of}
@@ -15,7 +14,7 @@ use Rattle.sheet.specs.Layout.{record-width, task-at-start, tasks-in}
 use Rattle.lent.specs.Checks.{Check}
 use Rattle.sheet.specs.Admission.{decided}
 use Rattle.sheet.specs.Reading.{layout-checks}
-use Rattle.sheet.proofs.Checks.{admitted-first, refused-first, passed}
+use Rattle.sheet.proofs.Checks.{admitted-first, refused-first}
 use Rattle.sheet.specs.declared.Answer.{Answer}
 use Rattle.sheet.specs.declared.Answer.the-variants.{Admitted, Refused}
 use Rattle.sheet.specs.declared.Reading.{Reading}

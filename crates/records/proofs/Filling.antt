@@ -1,12 +1,12 @@
 -- Zeros up to a whole byte, what is left behind the last field, and the record that a string is made.
 use mathlib.Core.Bool.{Bool, true, false, not, cond, true≢false}
-use mathlib.Core.List.{List, [], _∷_, _++_, append-nil, append-assoc}
+use mathlib.Core.List.{List, [], _∷_, _++_, append-nil}
 use mathlib.Core.Path.{_≡_, refl, sym, ap, ap₂, _∙_}
-use Prim.Native.Nat.{ℕ, zero, suc, _+_, _-_, _*_, _/_, _%_, _^_, _≤_, _<_}
+use Prim.Native.Nat.{ℕ, zero, suc, _+_, _-_, _*_, _%_, _^_, _≤_, _<_}
 use native.Mathlib.Nat.{add-zero, zero-div}
 use native.Mathlib.Omega.{arith}
 use borrow.Author.Tests.{le-leb, lt-leb, eq-eqb, ne-eqb}
-use lib.Dec.{leb, eqb}
+use lib.Dec.{eqb}
 use lib.ListN.{length, take, drop, replicate, length-append, length-drop, length-replicate, take-append-drop}
 use lib.Pow.{pow-pos}
 use lib.Seq.{take-all, take-at, length-take-le}
@@ -20,7 +20,6 @@ use Rattle.check_word.specs.Division.{seal, body, with-seal}
 use Rattle.check_word.proofs.Sealing.{length-seal}
 use Rattle.records.specs.Sealed.{check-word-size, bytes-for, whole-bytes, sealed-record, record-size, some-set, rest-of}
 use Rattle.records.specs.Faces.{closed}
-use Rattle.records.specs.declared.Rest.{Rest}
 use Rattle.records.specs.declared.Rest.the-variants.{Zeros, ByteLeft, BitSet}
 
 -- ---- whole bytes

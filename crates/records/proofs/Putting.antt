@@ -1,21 +1,21 @@
 -- Rows put one behind the other: each finds its room behind the one before it.
 use mathlib.Core.Bool.{Bool, true}
-use mathlib.Core.List.{List, [], _++_}
-use mathlib.Core.Path.{_≡_, refl, sym, ap, ap₂, _∙_}
-use Prim.Native.Nat.{ℕ, _+_, _*_, _≤_}
+use mathlib.Core.List.{List}
+use mathlib.Core.Path.{_≡_, sym, ap, _∙_}
+use Prim.Native.Nat.{ℕ, _+_, _≤_}
 use native.Mathlib.Omega.{arith}
 use borrow.Author.Tests.{le-leb}
-use lib.ListN.{length, take, drop, length-append}
+use lib.ListN.{length, take, drop}
 use lib.Seq.{take-at}
 use Rattle.bits.specs.Packed.{bits-of, with-field}
 use Rattle.records.specs.Rows.{packed, total}
-use Rattle.records.specs.Faces.{end-of, lawful, ends, row-fits, with-bits, stored-row}
+use Rattle.records.specs.Faces.{end-of, lawful, ends, row-fits, stored-row}
 use Rattle.records.specs.Inside.Steps.{Placed}
 use Rattle.records.specs.declared.Row.{Row}
 use Rattle.records.specs.declared.Row.the-variants.{EndsAt, Untouched}
 use Rattle.records.proofs.Packing.{Fit, length-packed, fit-length}
 use Rattle.records.proofs.Rows.{as-many, of-fit, there-is}
-use Rattle.records.proofs.Faces.{Puts, puts, put-both}
+use Rattle.records.proofs.Faces.{puts, put-both}
 use Rattle.records.proofs.Placing.{placed-long}
 use Rattle.records.proofs.RoundTrip.{row-room, stored-is, bits-with}
 

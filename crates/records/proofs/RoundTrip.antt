@@ -3,11 +3,11 @@ use mathlib.Core.Bool.{Bool, true, false, cond}
 use mathlib.Core.List.{List, [], _∷_, _++_, append-assoc}
 use mathlib.Core.Logic.{_⊎_, inl, inr}
 use mathlib.Core.Path.{_≡_, refl, sym, ap, ap₂, _∙_}
-use Prim.Native.Nat.{ℕ, _+_, _-_, _*_, _≤_, _<_}
+use Prim.Native.Nat.{ℕ, _+_, _-_, _*_, _≤_}
 use native.Mathlib.Omega.{arith}
 use borrow.Author.Tests.{eq-eqb}
-use lib.ListN.{length, take, drop, replicate, length-append, length-take, length-replicate}
-use lib.Seq.{take-at, drop-at, length-take-le}
+use lib.ListN.{length, take, drop, replicate, length-replicate}
+use lib.Seq.{drop-at, length-take-le}
 use Rattle.bits.specs.Packed.{digits, bits-of, bytes-of, field, with-field}
 use Rattle.bits.specs.Faces.{taken}
 use Rattle.bits.proofs.Faces.{taken-bits}
@@ -18,10 +18,9 @@ use Rattle.check_word.proofs.Sealing.{body-seal}
 use Rattle.lent.specs.Lent.{laid}
 use Rattle.records.specs.Rows.{packed, unpacked, total}
 use Rattle.records.specs.Sealed.{sealed-record, record-size, whole-bytes, rest-of}
-use Rattle.records.specs.Faces.{row-there, row-fits, with-bits, stored-row, row-has-places, taken-row, closed}
-use Rattle.records.specs.declared.Rest.{Rest}
+use Rattle.records.specs.Faces.{row-fits, with-bits, stored-row, row-has-places, taken-row, closed}
 use Rattle.records.specs.declared.Rest.the-variants.{Zeros}
-use Rattle.records.proofs.Packing.{Fit, length-packed, unpacked-packed}
+use Rattle.records.proofs.Packing.{length-packed, unpacked-packed}
 use Rattle.records.proofs.Rows.{as-many, fit-of}
 use Rattle.records.proofs.Faces.{Puts, puts, row-put, take-both}
 use Rattle.records.proofs.Filling.{fill-of, fill-short, bits-whole, zeros-unset, rest-unset}

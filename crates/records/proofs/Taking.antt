@@ -1,13 +1,12 @@
 -- The numbers of a row, taken one after another.
-use mathlib.Core.Bool.{Bool, true}
 use mathlib.Core.List.{List}
-use mathlib.Core.Path.{_≡_, refl, sym, ap, _∙_}
-use Prim.Native.Nat.{ℕ, suc, _+_, _*_, _≤_, _<_}
-use native.Mathlib.Nat.{add-assoc, add-zero}
+use mathlib.Core.Path.{_≡_, sym, ap, _∙_}
+use Prim.Native.Nat.{ℕ, _+_, _≤_, _<_}
+use native.Mathlib.Nat.{add-zero}
 use native.Mathlib.Numerals.{add-one}
 use native.Mathlib.Omega.{arith}
 use lib.ListN.{length, getD, take, drop, set}
-use lib.Seq.{take-all, take-length}
+use lib.Seq.{take-all}
 use Rattle.bits.specs.Packed.{value, bits-of, field}
 use Rattle.bits.specs.Faces.{taken}
 use Rattle.bits.proofs.Faces.{taken-value}

@@ -1,8 +1,7 @@
 -- Rows and records by hand: what the definitions give.
-use mathlib.Core.Bool.{Bool, true, false, xor}
-use mathlib.Core.List.{List, [], _∷_}
+use mathlib.Core.Bool.{true, false, xor}
+use mathlib.Core.List.{[], _∷_}
 use mathlib.Core.Path.{_≡_, refl}
-use Prim.Native.Nat.{ℕ}
 use Rattle.bits.specs.Packed.{value, digits, bits-of, bytes-of, with-field}
 use Rattle.check_word.specs.Division.{added, polynomial, divided, remainder, started, check-word, seal}
 use Rattle.lent.specs.Lent.{laid}

@@ -1,8 +1,7 @@
 // Packed records: rows of fields put into a byte string and taken from it, zero bits up to a whole byte, the check word behind.
 ghost use mathlib.Core.Bool.{true};
 ghost use mathlib.Core.Path.{_≡_};
-ghost use Prim.Native.Nat.{_+_, _<_, _≤_};
-ghost use lib.Dec.{leb};
+ghost use Prim.Native.Nat.{_+_, _<_};
 ghost use lib.ListN.{length, drop};
 ghost use Rattle.bits.specs.Packed.{bits-of};
 ghost use Rattle.bits.specs.Faces.{taken};

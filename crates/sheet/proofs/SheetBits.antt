@@ -2,11 +2,11 @@
 use mathlib.Core.Bool.{Bool, true, false, not, _||_}
 use mathlib.Core.List.{List, _++_, append-assoc}
 use mathlib.Core.Path.{_≡_, sym, ap, ap₂, _∙_}
-use Prim.Native.Nat.{ℕ, _+_, _-_, _*_, _/_, _≤_, _<_}
+use Prim.Native.Nat.{ℕ, _+_, _-_, _≤_}
 use native.Mathlib.Omega.{arith}
-use borrow.Author.Tests.{le-leb, le-ltb}
+use borrow.Author.Tests.{le-leb}
 use lib.Dec.{ltb, eqb}
-use lib.ListN.{length, replicate, length-append, length-replicate, take-append-drop}
+use lib.ListN.{length, replicate, take-append-drop}
 use lib.Seq.{length-take-le}
 use Rattle.bits.specs.Packed.{Bytes, bits-of}
 use Rattle.bits.proofs.Laws.{length-bits, bytes-take, bytes-are-bytes}

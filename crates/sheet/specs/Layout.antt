@@ -1,7 +1,7 @@
 -- Where the fields of a sheet lie, read from its bits: header, task records one after another, fill.
 use mathlib.Core.Bool.{Bool}
 use mathlib.Core.List.{List, [], _∷_}
-use Prim.Native.Nat.{ℕ, zero, suc, _+_, _*_}
+use Prim.Native.Nat.{ℕ, zero, suc, _+_}
 use lib.ListN.{getD, drop}
 use Rattle.theory.specs.Tasks.{Task}
 use Rattle.records.specs.Rows.{unpacked, total}

@@ -1,12 +1,12 @@
 -- The whole sheet: header and records, and the fill and check word behind them, are the bytes of the definition.
 use mathlib.Core.Bool.{Bool, true}
 use mathlib.Core.List.{List, [], _∷_, _++_, map}
-use mathlib.Core.Path.{_≡_, refl, sym, ap, _∙_}
-use Prim.Native.Nat.{ℕ, _+_, _*_, _≤_, _<_}
+use mathlib.Core.Path.{_≡_, sym, ap, _∙_}
+use Prim.Native.Nat.{ℕ, _+_, _≤_, _<_}
 use native.Mathlib.Omega.{arith}
 use lib.Dec.{lit<}
 use lib.ListN.{length, length-append}
-use Rattle.records.specs.Rows.{packed, total}
+use Rattle.records.specs.Rows.{packed}
 use Rattle.records.specs.Sealed.{sealed-record, record-size}
 use Rattle.records.specs.Faces.{end-of, row-fits, closed}
 use Rattle.records.specs.Inside.Steps.{Placed}

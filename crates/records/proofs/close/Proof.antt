@@ -1,5 +1,5 @@
 -- `close` meets its contract: the fill is one field of zeros, and the check word goes behind.
-use mathlib.Core.Path.{_≡_, sym, _∙_}
+use mathlib.Core.Path.{sym, _∙_}
 use borrow.Author.Needs.{needs}
 use Rattle.records.proofs.Filling.{not-closed, was-closed}
 use Rattle.records.proofs.close.Statement.{statement}

@@ -1,10 +1,10 @@
 -- `each_fits` meets its contract: a number fits its field where nothing is left of it behind the field's width.
-use mathlib.Core.Path.{_≡_, refl, sym, ap, _∙_}
-use Prim.Native.Nat.{ℕ, _≤_, _-_, _/_, _^_}
+use mathlib.Core.Path.{_≡_, refl, sym, _∙_}
+use Prim.Native.Nat.{_≤_, _-_}
 use native.Mathlib.Omega.{arith}
 use borrow.Author.Needs.{needs}
 use denote.Ref.{now}
-use lib.ListN.{length, getD, drop}
+use lib.ListN.{length, drop}
 use Rattle.bits.proofs.Masks.{shifted-out, not-shifted-out}
 use Rattle.records.specs.Faces.{each-fits}
 use Rattle.records.proofs.Rows.{lawful-at, uneven, fits-not, fits-more, fits-all}

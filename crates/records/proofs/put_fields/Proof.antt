@@ -1,12 +1,11 @@
 -- `put_fields` meets its contract: the fields of a row, one after another.
-use mathlib.Core.Path.{_≡_, sym, ap, _∙_}
 use Prim.Native.Nat.{_-_}
 use native.Mathlib.Omega.{arith}
 use borrow.Author.Needs.{needs}
 use lib.ListN.{length}
 use denote.Ref.{now}
 use Rattle.records.proofs.Faces.{Puts, puts}
-use Rattle.records.proofs.Placing.{RowTo, row-none, row-inside, row-more, row-end, row-all}
+use Rattle.records.proofs.Placing.{RowTo, row-none, row-more, row-end, row-all}
 use Rattle.records.proofs.Rows.{as-many}
 use Rattle.records.proofs.put_fields.Statement.{statement}
 use Rattle.records.proofs.put_fields.Tie as tie

@@ -1,5 +1,4 @@
 -- `take_fields` meets its contract: the numbers of a row, one after another.
-use mathlib.Core.Path.{_≡_, sym, ap, _∙_}
 use Prim.Native.Nat.{_-_}
 use native.Mathlib.Omega.{arith}
 use borrow.Author.Needs.{needs}
