@@ -3,7 +3,7 @@ use mathlib.Core.Bool.{Bool}
 use mathlib.Core.List.{List, [], _∷_, _++_, append-assoc, append-nil}
 use mathlib.Core.Path.{_≡_, refl, sym, ap, ap₂, _∙_}
 use Prim.Native.Nat.{ℕ, zero, suc, _+_, _*_, _^_, _≤_, _<_}
-use native.Mathlib.Nat.{mod-eq-of-lt, add-assoc, lt-of-lt-of-le}
+use native.Mathlib.Nat.{mod-eq-of-lt, lt-of-lt-of-le}
 use native.Mathlib.Numerals.{add-one}
 use native.Mathlib.Omega.{arith}
 use lib.ListN.{length, getD, take, drop, replicate, length-append, length-take, length-drop}
@@ -62,23 +62,11 @@ packed-unpacked (w ∷ ws) bits h =
 pub value-taken : (w : ℕ) (bits : List Bool) → value (take w bits) < 2 ^ w
 value-taken w bits = lt-of-lt-of-le (value-lt (take w bits)) (pow-mono (rw length-take (omega arith)))
 
--- numbers that were unpacked fit
-pub unpacked-fit : (ws : List ℕ) (bits : List Bool) → Fit ws (unpacked ws bits)
-unfolding unpacked
-unpacked-fit [] bits = no-field
-unpacked-fit (w ∷ ws) bits = one-more (value-taken w bits) (unpacked-fit ws (drop w bits))
-
 -- n fields of one width
 pub total-replicate : (n w : ℕ) → total (replicate n w) ≡ n * w
 unfolding total
 total-replicate zero w = omega arith
 total-replicate (suc n) w = rw (total-replicate n w) (omega arith)
-
--- fields behind fields
-pub total-append : (vs ws : List ℕ) → total (vs ++ ws) ≡ total vs + total ws
-unfolding total
-total-append [] ws = omega arith
-total-append (v ∷ vs) ws = rw (total-append vs ws) (sym (add-assoc v (total vs) (total ws)))
 
 -- ---- field by field
 

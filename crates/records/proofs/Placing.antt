@@ -67,7 +67,7 @@ module _ {s t : List ℕ} {at next i : ℕ} {ws vs : List ℕ} (widths : lawful 
   next-is = p .put .behind ∙ ap (λ (k : ℕ). at + k) so-far
 
   -- the next field is there
-  pub row-inside : Inside (length t) next (getD ws i 0)
+  row-inside : Inside (length t) next (getD ws i 0)
   row-inside =
       let w = lawful-at ws widths i l in
       record { low = w .0; high = w .1; there = omega (arith, next-is, total-part ws i l, p .long) }

@@ -40,7 +40,7 @@ sheet-of policy tasks = sealed-record (header-bits policy (length tasks) ++ task
 unfoldable pub sheet-bytes : TaskSet → List ℕ
 sheet-bytes s = sheet-of (s .policy) (map task-in (records-of s))
 
--- writing a set: "Order for a list: .. then 12", "the sheet's whole length for writing", "The writer returns the bytes written"
+-- writing a set: the refusals of a list in their order, its sheet as what is written, the count of its bytes as the answer
 unfoldable pub writing : TaskSet → Call Refusal ℕ Written
 writing s =
     record {
