@@ -23,7 +23,7 @@ pub enum Start {
 }
 
 // Whether the sum from frame s is at least that from frame k, going round, for each length up to the number of frames.
-fn at_least(frames: &[u32; 8], count: usize, s: usize, k: usize) -> bool
+fn at_least(frames: &[u32; Sheet::FRAME_ROOM], count: usize, s: usize, k: usize) -> bool
     requires { ⌜ (length (now frames) ≡ most-frames) × (count ≤ most-frames) × (s < count) × (k < count) ⌝ }
     ensures { λ r. ⌜ r ≡ from-at-least (of-frames (take count (now (frames .entry)))) s k ⌝ }
 {
@@ -46,7 +46,7 @@ fn at_least(frames: &[u32; 8], count: usize, s: usize, k: usize) -> bool
 }
 
 // Whether frame s qualifies as a start frame.
-fn qualifies(frames: &[u32; 8], count: usize, s: usize) -> bool
+fn qualifies(frames: &[u32; Sheet::FRAME_ROOM], count: usize, s: usize) -> bool
     requires { ⌜ (length (now frames) ≡ most-frames) × (count ≤ most-frames) × (s < count) ⌝ }
     ensures { λ r. ⌜ r ≡ qualifies (of-frames (take count (now (frames .entry)))) s ⌝ }
 {
@@ -72,7 +72,7 @@ pub fn start_frame(task: Task) -> Start
     Start::Nowhere
 }
 
-fn largest(frames: &[u32; 8], count: usize) -> u32
+fn largest(frames: &[u32; Sheet::FRAME_ROOM], count: usize) -> u32
     requires { ⌜ (length (now frames) ≡ most-frames) × (count ≤ most-frames) ⌝ }
     ensures { λ r. ⌜ r ≡ largest (take count (now (frames .entry))) ⌝ }
 {
@@ -87,7 +87,12 @@ fn largest(frames: &[u32; 8], count: usize) -> u32
 }
 
 // Whether every frame time lies in least to greatest.
-fn frames_between(frames: &[u32; 8], count: usize, least: u32, greatest: u32) -> bool
+fn frames_between(
+    frames: &[u32; Sheet::FRAME_ROOM],
+    count: usize,
+    least: u32,
+    greatest: u32,
+) -> bool
     requires { ⌜ (length (now frames) ≡ most-frames) × (count ≤ most-frames) ⌝ }
     ensures { λ r. ⌜ r ≡ all-between least greatest (take count (now (frames .entry))) ⌝ }
 {

@@ -12,10 +12,10 @@ use sheet::Refusal;
 use sheet::Sheet;
 
 // How many places a task has for its times.
-const WIDTH: usize = Sheet::MOST_FRAMES as usize;
+const WIDTH: usize = Sheet::FRAME_ROOM;
 
 // The times of one task put over those that stand from `at` on.
-fn put_times(times: &mut [u32], at: usize, row: [u32; 8])
+fn put_times(times: &mut [u32], at: usize, row: [u32; Sheet::FRAME_ROOM])
     requires { ⌜ at + most-frames ≤ length (now times) ⌝ }
     ensures { λ _. ⌜ (length row ≡ most-frames) × (now (times .exit) ≡ take at (now (times .entry)) ++ row ++ drop (at + most-frames) (now (times .entry))) ⌝ }
 {

@@ -14,6 +14,7 @@ use order::Ordered;
 use response::Above;
 use response::Higher;
 use response::Response;
+use sheet::Sheet;
 use sheet::Task;
 
 // The start frame; 0 where there is none.
@@ -37,13 +38,19 @@ fn written(r: Response) -> u32
 }
 
 // The response times of a task, in eight places; those of its largest frames are known.
-fn times_of(above: Above, blocked: u32, task: Task, largest: u32, known: u32) -> [u32; 8]
+fn times_of(
+    above: Above,
+    blocked: u32,
+    task: Task,
+    largest: u32,
+    known: u32,
+) -> [u32; Sheet::FRAME_ROOM]
     requires { ⌜ known ≡ as-written (response-to above blocked largest (shortest-deadline (task-in task))) ⌝ }
     ensures { λ r. ⌜ r ≡ places-by true (times-to above blocked task) ⌝ }
 {
     let frames = task.frames;
     let count = sheet::frames_in(task.frame_count, frames);
-    let mut times = [0; 8];
+    let mut times = [0; Sheet::FRAME_ROOM];
     for k in 0..count {
         let c = frames[k];
         if c == largest {
@@ -58,7 +65,13 @@ fn times_of(above: Above, blocked: u32, task: Task, largest: u32, known: u32) ->
 }
 
 // What is found of a task, from whether it passes and its times.
-fn finding(number: u32, blocked: u32, task: Task, passes: bool, times: [u32; 8]) -> Finding
+fn finding(
+    number: u32,
+    blocked: u32,
+    task: Task,
+    passes: bool,
+    times: [u32; Sheet::FRAME_ROOM],
+) -> Finding
     ensures { λ r. ⌜ r ≡ finding-with number blocked (task-in task) passes times ⌝ }
 {
     let frames = task.frames;
@@ -87,26 +100,26 @@ fn finding_of(above: Above, number: u32, blocked: u32, task: Task) -> Finding
             true,
             times_of(above, blocked, task, largest, t),
         ),
-        Response::Never => finding(number, blocked, task, false, [0; 8]),
+        Response::Never => finding(number, blocked, task, false, [0; Sheet::FRAME_ROOM]),
     }
 }
 
 // What is found of all places; the tasks above grow from place to place.
-pub fn findings_of(o: Ordered) -> [Finding; 16]
+pub fn findings_of(o: Ordered) -> [Finding; Sheet::TASK_ROOM]
     requires { ⌜ HasFrames (tasks-in-order o) ⌝ }
     ensures { λ r. ⌜ r ≡ findings-of (numbers-of o) (tasks-in-order o) ⌝ }
 {
     let tasks = o.tasks;
     let numbers = o.numbers;
     let count = sheet::tasks_in(o.count, tasks);
-    let mut findings = [Finding::blank(); 16];
+    let mut findings = [Finding::blank(); Sheet::TASK_ROOM];
     let nobody = Higher {
         start: 0,
         task: Task::blank(),
     };
     let mut above = Above {
         count: 0,
-        tasks: [nobody; 16],
+        tasks: [nobody; Sheet::TASK_ROOM],
     };
     for p in 0..count {
         let task = tasks[p];

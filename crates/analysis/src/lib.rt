@@ -34,14 +34,14 @@ pub struct Finding {
     pub frame_count: u32,
     pub blocked: u32,
     pub passes: bool,
-    pub times: [u32; 8],
+    pub times: [u32; Sheet::FRAME_ROOM],
 }
 
 // The outcome, how many tasks were analysed, and what was found of each, in priority order.
 pub struct Analysis {
     pub outcome: Outcome,
     pub task_count: u32,
-    pub findings: [Finding; 16],
+    pub findings: [Finding; Sheet::TASK_ROOM],
 }
 
 impl Finding {
@@ -56,7 +56,7 @@ impl Finding {
             frame_count: 0,
             blocked: 0,
             passes: false,
-            times: [0; 8],
+            times: [0; Sheet::FRAME_ROOM],
         }
     }
 }
@@ -101,7 +101,7 @@ fn refused(refusal: Refusal) -> Analysis
     Analysis {
         outcome: Outcome::Refused(refusal),
         task_count: 0,
-        findings: [Finding::blank(); 16],
+        findings: [Finding::blank(); Sheet::TASK_ROOM],
     }
 }
 

@@ -12,6 +12,7 @@ use crate::Finding;
 use crate::Outcome;
 use order::Blocker;
 use order::Ordered;
+use sheet::Sheet;
 
 // The answer that names the task at place p, and its blocker.
 fn missed(o: Ordered, p: usize) -> Outcome
@@ -30,7 +31,7 @@ fn missed(o: Ordered, p: usize) -> Outcome
 }
 
 // The set holds if all tasks pass.
-pub fn verdict_of(o: Ordered, findings: [Finding; 16]) -> Outcome
+pub fn verdict_of(o: Ordered, findings: [Finding; Sheet::TASK_ROOM]) -> Outcome
     requires { ⌜ findings ≡ findings-of (numbers-of o) (tasks-in-order o) ⌝ }
     ensures { λ r. ⌜ r ≡ verdict-number (numbers-of o) (verdict (tasks-in-order o)) ⌝ }
 {

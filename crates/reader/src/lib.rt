@@ -9,7 +9,6 @@ ghost use Rattle.sheet.specs.Fields.{header-widths};
 ghost use Rattle.sheet.specs.Admission.{decided};
 ghost use Rattle.sheet.specs.Reading.{layout-checks, reading};
 ghost use Rattle.reader.specs.Inside.Parts.{turned-away, times-from, found-at, nothing-found, records-reading, body-reading, judged};
-use records::CHECK_WORD_SIZE;
 use records::Rest;
 use records::Row;
 use sheet::Answer;
@@ -194,7 +193,7 @@ pub fn read_sheet(bytes: &[u8]) -> Reading
     if !sealed {
         return refused(Refusal::CheckWord);
     }
-    let end = n - CHECK_WORD_SIZE;
+    let end = n - check_word::SIZE;
     let found = read_body(&bytes[..end]);
     let answer = found.answer;
     match answer {

@@ -16,9 +16,9 @@ use Rattle.bits.proofs.Faces.{stored-not, fits-outside}
 use Rattle.bits.proofs.Laws.{length-bytes, length-bits, bits-bytes, bytes-bits, bytes-take, take-bits}
 use Rattle.bits.proofs.RoundTrip.{bits-stored}
 use Rattle.bits.proofs.Within.{within-narrow}
-use Rattle.check_word.specs.Division.{seal, body, with-seal}
+use Rattle.check_word.specs.Division.{word-size, seal, body, with-seal}
 use Rattle.check_word.proofs.Sealing.{length-seal}
-use Rattle.records.specs.Sealed.{check-word-size, bytes-for, whole-bytes, sealed-record, record-size, some-set, rest-of}
+use Rattle.records.specs.Sealed.{bytes-for, whole-bytes, sealed-record, record-size, some-set, rest-of}
 use Rattle.records.specs.Faces.{closed}
 use Rattle.records.specs.declared.Rest.the-variants.{Zeros, ByteLeft, BitSet}
 
@@ -54,7 +54,7 @@ whole-of b bits n h l e =
 
 pub length-record : (bits : List Bool) → length (sealed-record bits) ≡ record-size (length bits)
 unfolding sealed-record
-length-record bits = length-seal (whole-bytes bits) ∙ ap (λ (n : ℕ). n + check-word-size) (length-whole bits)
+length-record bits = length-seal (whole-bytes bits) ∙ ap (λ (n : ℕ). n + word-size) (length-whole bits)
 
 -- ---- bits that are set
 

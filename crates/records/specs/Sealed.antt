@@ -5,17 +5,13 @@ use Prim.Native.Nat.{ℕ, _+_, _-_, _*_, _/_}
 use lib.Dec.{leb}
 use lib.ListN.{length, replicate}
 use Rattle.bits.specs.Packed.{bytes-of}
-use Rattle.check_word.specs.Division.{seal}
+use Rattle.check_word.specs.Division.{word-size, seal}
 use Rattle.records.specs.declared.Rest.{Rest}
 use Rattle.records.specs.declared.Rest.the-variants.{Zeros, ByteLeft, BitSet}
 
 -- how many bits a byte has
 abbrev pub byte-width : ℕ
 byte-width = 8
-
--- how many bytes the check word has
-abbrev pub check-word-size : ℕ
-check-word-size = 2
 
 -- how many bytes hold n bits
 abbrev pub bytes-for : ℕ → ℕ
@@ -31,7 +27,7 @@ sealed-record bits = seal (whole-bytes bits)
 
 -- how many bytes the record of n bits has
 abbrev pub record-size : ℕ → ℕ
-record-size n = bytes-for n + check-word-size
+record-size n = bytes-for n + word-size
 
 -- some bit is 1
 unfoldable pub some-set : List Bool → Bool

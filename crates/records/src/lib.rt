@@ -25,8 +25,6 @@ pub enum Rest {
     BitSet,
 }
 
-pub const CHECK_WORD_SIZE: usize = 2;
-
 const LAST_POSITION: usize = 0xFFFF_FFFF_FFFF_FFFF;
 
 // Where a string of `len` bytes ends, as far as a position can tell.
@@ -201,7 +199,7 @@ pub fn left_behind(bytes: &[u8], at: usize) -> Rest
 pub fn record_size(bits: usize) -> usize
     ensures { λ r. ⌜ r ≡ record-size bits ⌝ }
 {
-    bits / 8 + (bits % 8 + 7) / 8 + CHECK_WORD_SIZE
+    bits / 8 + (bits % 8 + 7) / 8 + check_word::SIZE
 }
 
 // Makes a string the record of its first bits, where it has that record's size: zero bits up to a whole byte, the check word behind.

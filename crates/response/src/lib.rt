@@ -17,7 +17,7 @@ pub struct Higher {
 // The tasks above one: of sixteen places, the first `count`.
 pub struct Above {
     pub count: u32,
-    pub tasks: [Higher; 16],
+    pub tasks: [Higher; Sheet::TASK_ROOM],
 }
 
 // A response time, where there is one up to the deadline.
@@ -42,7 +42,7 @@ struct Step {
 const IDLE: u64 = 4_294_967_296;
 
 // How many of the tasks above there are.
-fn above_in(count: u32, tasks: [Higher; 16]) -> usize
+fn above_in(count: u32, tasks: [Higher; Sheet::TASK_ROOM]) -> usize
     ensures { λ r. ⌜ (r ≡ min count most-tasks) × (length tasks ≡ most-tasks) ⌝ }
 {
     if count < Sheet::MOST_TASKS {
@@ -84,7 +84,7 @@ fn begin(h: Higher) -> Counted
 }
 
 // The same for all tasks above.
-fn begin_all(above: Above) -> [Counted; 16]
+fn begin_all(above: Above) -> [Counted; Sheet::TASK_ROOM]
     ensures { λ r. ⌜ Begun (above .tasks) (min (above .count) most-tasks) r ⌝ }
 {
     let tasks = above.tasks;
@@ -93,7 +93,7 @@ fn begin_all(above: Above) -> [Counted; 16]
         until: IDLE,
         next: 0,
     };
-    let mut counted = [idle; 16];
+    let mut counted = [idle; Sheet::TASK_ROOM];
     for i in 0..count {
         let h = tasks[i];
         let c = begin(h);
