@@ -1,16 +1,16 @@
 -- What is found from the tasks above and the blocking is the finding of the task's place.
-use mathlib.Core.Bool.{Bool, true, false}
+use mathlib.Core.Bool.{true, false}
 use mathlib.Core.List.{List, [], _∷_, _++_, map}
 use mathlib.Core.Option.{Option, none, some, Option·getD}
 use mathlib.Core.Path.{_≡_, refl, sym, ap, ap₂, _∙_}
-use Prim.Native.Nat.{ℕ, zero, suc, _+_, _-_, _%_, _≤_, _<_, min}
+use Prim.Native.Nat.{ℕ, zero, suc, _+_, _-_, _≤_, _<_, min}
 use native.Mathlib.Nat.{mod-eq-of-lt, zero-add, add-zero, add-suc, suc-add}
 use native.Mathlib.Omega.{arith}
 use lib.ListN.{length, getD, take, drop, set, replicate, length-take, drop-of-length-le, length-map, List·getD-map, List·getD-append}
 use lib.Seq.{drop-cons, getD-take}
 use Rattle.theory.specs.First.{found}
 use Rattle.theory.specs.Tasks.{Task, task-at, frame-count, frame, largest, largest-frame, deadline-of, shortest-deadline}
-use Rattle.theory.specs.Analysis.{Higher, lower, blocking, higher, demand, response, demand-of, response-of, passes}
+use Rattle.theory.specs.Analysis.{lower, blocking, higher, demand, response, demand-of, response-of, passes}
 use Rattle.theory.proofs.Laws.{largest-is}
 use Rattle.sheet.specs.Constants.{most-frames}
 use Rattle.sheet.specs.Tasks.{task-in}

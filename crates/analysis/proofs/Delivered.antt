@@ -1,9 +1,9 @@
 -- The times of an analysis put to lent numbers place by place.
-use mathlib.Core.List.{List, [], _++_}
-use mathlib.Core.Path.{_≡_, refl, sym, ap, _∙_}
+use mathlib.Core.List.{List, _++_}
+use mathlib.Core.Path.{_≡_, sym, ap, _∙_}
 use Prim.Native.Nat.{ℕ, _+_, _*_, _≤_, _<_}
 use native.Mathlib.Omega.{arith}
-use lib.ListN.{length, getD, take, drop, List·getD-map}
+use lib.ListN.{length, take, drop, List·getD-map}
 use lib.Seq.{getD-take}
 use Rattle.lent.specs.Lent.{laid}
 use Rattle.lent.proofs.Checks.{no-check}
@@ -11,13 +11,13 @@ use Rattle.lent.proofs.Lent.{by-room, done, turned-tells, done-tells}
 use Rattle.sheet.specs.Constants.{most-frames}
 use Rattle.sheet.specs.declared.Refusal.the-variants.{Room}
 use Rattle.analysis.specs.Times.{number-at, place-of}
-use Rattle.analysis.specs.Findings.{past-end, found, numbers-found, in-turn, times-by-number}
+use Rattle.analysis.specs.Findings.{past-end, found, numbers-found, times-by-number}
 use Rattle.analysis.specs.Inside.Numbered.{Numbered}
 use Rattle.analysis.specs.Inside.Delivery.{delivering, delivered-outcome, delivered}
 use Rattle.analysis.specs.declared.Outcome.the-variants.{Refused}
 use Rattle.analysis.specs.declared.Analysis.{Analysis}
 use Rattle.analysis.specs.declared.Finding.{Finding}
-use Rattle.analysis.proofs.ByNumber.{Stands, none-stands, stands-more, all-stand, turn-length}
+use Rattle.analysis.proofs.ByNumber.{Stands, stands-more, all-stand, turn-length}
 use Rattle.analysis.proofs.Numbering.{place-in, number-back, number-in}
 
 -- after p places their times stand at their numbers

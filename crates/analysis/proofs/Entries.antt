@@ -3,12 +3,12 @@ use mathlib.Core.List.{List, [], _∷_, _++_, map}
 use mathlib.Core.Path.{_≡_, refl, sym, ap, _∙_}
 use Prim.Native.Nat.{ℕ, _≤_, _<_, zero, suc, _+_, _-_, _*_, zero-le}
 use native.Mathlib.Omega.{arith}
-use lib.ListN.{length, getD, take, drop, replicate, length-append, length-replicate, drop-of-length-le, List·getD-eq-default}
+use lib.ListN.{length, getD, drop, length-append, length-replicate, drop-of-length-le, List·getD-eq-default}
 use lib.Seq.{take-at, drop-cons}
 use Rattle.theory.specs.Tasks.{Task, task-at, frame-count}
 use Rattle.theory.specs.Analysis.{verdict}
 use Rattle.lent.specs.Checks.{Check, first-refusal}
-use Rattle.lent.specs.Lent.{Call, refusal-of, answered, left-after}
+use Rattle.lent.specs.Lent.{refusal-of, answered, left-after}
 use Rattle.lent.proofs.Checks.{none-first}
 use Rattle.lent.proofs.Lent.{by-checks, turned-tells}
 use Rattle.sheet.specs.Constants.{most-tasks, most-frames}
@@ -24,7 +24,7 @@ use Rattle.sheet.specs.declared.Refusal.{Refusal}
 use Rattle.sheet.specs.declared.Refusal.the-variants.{Room}
 use Rattle.sheet.proofs.Checks.{none-applies, one-applies}
 use Rattle.sheet.proofs.Records.{tasks-with}
-use Rattle.sheet.proofs.Carried.{Carried, by-admission, by-reading, reading-answer, admitted-reading}
+use Rattle.sheet.proofs.Carried.{by-admission, by-reading, reading-answer, admitted-reading}
 use Rattle.sheet.proofs.Analysable.{admitted-set-is-admitted}
 use Rattle.order.specs.Order.{priority-order, ordered-set}
 use Rattle.order.specs.Ordered.{order-of, ordered, tasks-in-order}

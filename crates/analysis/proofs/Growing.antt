@@ -1,14 +1,13 @@
 -- The findings of an ordered set, place by place, while the tasks above grow.
 use mathlib.Core.List.{List, [], _∷_, _++_, map, map-append}
 use mathlib.Core.Path.{_≡_, refl, sym, ap, ap₂, _∙_}
-use Prim.Native.Nat.{ℕ, zero, suc, _+_, _-_, _≤_, _<_, min, zero-le}
-use native.Mathlib.Nat.{zero-add}
+use Prim.Native.Nat.{ℕ, _+_, _-_, _≤_, _<_}
 use native.Mathlib.Numerals.{add-one}
 use native.Mathlib.Omega.{arith}
-use lib.ListN.{length, getD, take, set, replicate, length-set, length-map, length-take}
+use lib.ListN.{length, getD, take, set, replicate, length-set}
 use lib.Seq.{take-suc, take-suc-set}
-use Rattle.theory.specs.Tasks.{Task, task-at, frame-count, start-frame}
-use Rattle.theory.specs.Analysis.{Higher, lower, blocking, higher}
+use Rattle.theory.specs.Tasks.{Task, task-at, start-frame}
+use Rattle.theory.specs.Analysis.{Higher, higher}
 use Rattle.sheet.specs.Constants.{most-tasks}
 use Rattle.sheet.specs.Tasks.{task-in}
 use Rattle.sheet.specs.declared.Task.{Task as Record}
@@ -21,7 +20,7 @@ use Rattle.analysis.specs.Times.{number-at}
 use Rattle.analysis.specs.Findings.{no-finding, findings-from, findings-of}
 use Rattle.analysis.specs.Inside.Steps.{HasFrames, numbers-of, finding-to}
 use Rattle.analysis.specs.declared.Finding.{Finding}
-use Rattle.order.proofs.Filled.{filled, none-filled, length-filled, filled-more, all-filled}
+use Rattle.order.proofs.Filled.{filled, none-filled, filled-more, all-filled}
 use Rattle.analysis.proofs.ByPlace.{finding-is-at, length-findings, finding-first}
 use Rattle.analysis.proofs.InUse.{tasks-within, number-is}
 

@@ -8,7 +8,7 @@ use lib.ListN.{length, length-append}
 use Rattle.analysis.specs.Findings.{found}
 use Rattle.analysis.specs.declared.Analysis.{Analysis}
 use Rattle.report_text.specs.Inside.TextPut.{TextPut, line-room}
-use Rattle.report_text.specs.Inside.Lines.{finding-line, finding-lines, Printable, AllPrintable}
+use Rattle.report_text.specs.Inside.Lines.{finding-line, finding-lines, AllPrintable}
 use Rattle.report_text.proofs.Put.{put-length, put-room, put-then}
 use Rattle.report_text.proofs.Lines.{line-length}
 

@@ -5,7 +5,7 @@ use Prim.Native.Nat.{ℕ, suc, _+_, _≤_, _<_}
 use native.Mathlib.Nat.{add-zero}
 use native.Mathlib.Numerals.{add-one}
 use native.Mathlib.Omega.{arith}
-use lib.ListN.{length, getD, take, drop, set, length-append, length-take, length-drop}
+use lib.ListN.{length, take, drop, set, length-append, length-take, length-drop}
 use lib.Seq.{set-split, append-snoc, take-at, drop-at, drop-drop, length-take-le, paste-zero}
 use Rattle.analysis.proofs.ByNumber.{put, all-put}
 use Rattle.report_text.specs.Inside.TextPut.{TextPut}

@@ -1,8 +1,8 @@
 -- What is written for a byte string is its report: the lines printed from what the analysis finds are those of the definition.
 use mathlib.Core.Bool.{Bool, true, false, not, _&&_}
-use mathlib.Core.List.{List, [], _∷_, _++_, append-assoc, append-nil}
+use mathlib.Core.List.{List, [], _++_, append-assoc, append-nil}
 use mathlib.Core.Path.{_≡_, refl, sym, ap, ap₂, _∙_}
-use Prim.Native.Nat.{ℕ, zero, suc, _+_, _*_, _≤_, _<_, zero-le}
+use Prim.Native.Nat.{ℕ, zero, suc, _+_, _≤_, _<_, zero-le}
 use native.Mathlib.Nat.{zero-add, add-zero, add-suc, suc-add, le-refl}
 use native.Mathlib.Numerals.{add-one}
 use native.Mathlib.Omega.{arith}
@@ -12,7 +12,7 @@ use lib.ListN.{length, take, length-append}
 use lib.Seq.{take-at, length-take-le}
 use Rattle.theory.specs.Tasks.{Task, task-at, frame-count, Admitted as IsAdmitted}
 use Rattle.theory.specs.Analysis.{Verdict, holds, missed, verdict, passes}
-use Rattle.sheet.specs.Constants.{most-tasks, most-frames, least-size, greatest-size}
+use Rattle.sheet.specs.Constants.{most-frames, least-size, greatest-size}
 use Rattle.sheet.specs.Admission.{decided}
 use Rattle.sheet.specs.Reading.{sheet-checks, policy-of, tasks-of}
 use Rattle.sheet.specs.declared.Answer.{Answer}
@@ -25,18 +25,16 @@ use Rattle.sheet.proofs.Carried.{Carried, reading-answer, by-reading}
 use Rattle.order.specs.Order.{priority-order, ordered-set}
 use Rattle.order.proofs.Laws.{ordered-length, ordered-admitted}
 use Rattle.analysis.specs.Times.{verdict-number, outcome-of, times-from, places-by, places-of}
-use Rattle.analysis.specs.Findings.{finding-at, found}
+use Rattle.analysis.specs.Findings.{finding-at}
 use Rattle.analysis.specs.Answers.{outcome-by, refused-analysis, analysis-by, sheet-analysis}
 use Rattle.analysis.specs.declared.Analysis.{Analysis}
-use Rattle.analysis.specs.declared.Finding.{Finding}
 use Rattle.analysis.specs.declared.Outcome.the-variants.{Refused}
 use Rattle.analysis.proofs.Delivered.{number-below}
 use Rattle.analysis.proofs.Entries.{small-ordered, found-at, analysis-numbered}
 use Rattle.analysis.proofs.TimesAt.{length-times}
 use Rattle.report_text.specs.Report.{first-line, time-words, task-line, task-lines, lines-behind, report}
 use Rattle.report_text.specs.Text.{room}
-use Rattle.report_text.specs.Inside.TextPut.{line-room, first-room}
-use Rattle.report_text.specs.Inside.Lines.{finding-line, finding-lines, Printable, AllPrintable}
+use Rattle.report_text.specs.Inside.Lines.{finding-line, finding-lines, AllPrintable}
 use Rattle.report_text.proofs.Lines.{first-line-length}
 use Rattle.report_text.proofs.Findings.{no-lines, more-lines, lines-length}
 

@@ -1,5 +1,5 @@
 -- `analyse_set` meets its contract.
-use mathlib.Core.Path.{_≡_, sym, ap, _∙_}
+use mathlib.Core.Path.{sym, ap, _∙_}
 use denote.Ref.{now}
 use Rattle.analysis.specs.Inside.Delivery.{delivered-outcome, delivered}
 use Rattle.analysis.specs.declared.Analysis.{Analysis}

@@ -1,5 +1,5 @@
 -- `analyse_sheet` meets its contract.
-use mathlib.Core.Path.{_≡_, sym, ap, _∙_}
+use mathlib.Core.Path.{sym, ap, _∙_}
 use mathlib.Core.List.{map}
 use denote.Ref.{now}
 use Rattle.sheet.specs.Tasks.{task-in, records-of}

@@ -1,11 +1,7 @@
 -- `analysed` meets its contract.
-use mathlib.Core.Path.{_≡_, sym, ap, _∙_}
-use mathlib.Core.List.{map}
+use mathlib.Core.Path.{sym, ap, _∙_}
 use Prim.Native.Nat.{min}
-use Rattle.sheet.specs.Tasks.{task-in, records-of}
-use Rattle.sheet.specs.declared.Answer.the-variants.{Admitted}
 use Rattle.order.proofs.Laws.{records-length}
-use Rattle.analysis.specs.Answers.{analysis-by}
 use Rattle.analysis.proofs.Entries.{has-frames, analysis-is, set-numbered}
 use borrow.Author.Needs.{needs}
 use Rattle.analysis.proofs.analysed.Statement.{statement}

@@ -4,11 +4,6 @@ use Rattle.analysis.proofs.Entries.{set-admitted, set-refused}
 use borrow.Author.Needs.{needs}
 use Rattle.analysis.proofs.analysis_of_set.Statement.{statement}
 use Rattle.analysis.proofs.analysis_of_set.Tie as tie
-use Rattle.analysis.proofs.analysis_of_set.Reads as reads
-use Rattle.analysis.proofs.analysis_of_set.Lts as lts
-use Rattle.admission.proofs.admit.Reads as admit-reads
-use Rattle.analysis.proofs.analysed.Reads as analysed-reads
-use Rattle.analysis.proofs.refused.Reads as refused-reads
 
 admit-requires : tie.Need-admit-requires
 admit-requires c κs = search needs

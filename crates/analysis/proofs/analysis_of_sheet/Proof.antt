@@ -10,11 +10,6 @@ use Rattle.analysis.specs.Answers.{analysis-by}
 use borrow.Author.Needs.{needs}
 use Rattle.analysis.proofs.analysis_of_sheet.Statement.{statement}
 use Rattle.analysis.proofs.analysis_of_sheet.Tie as tie
-use Rattle.analysis.proofs.analysis_of_sheet.Reads as reads
-use Rattle.analysis.proofs.analysis_of_sheet.Lts as lts
-use Rattle.analysis.proofs.analysed.Reads as analysed-reads
-use Rattle.analysis.proofs.refused.Reads as refused-reads
-use Rattle.reader.proofs.read_sheet.Reads as read-sheet-reads
 
 read-sheet-requires : tie.Need-read-sheet-requires
 read-sheet-requires c κs = search needs

@@ -3,10 +3,6 @@ use borrow.Author.Needs.{needs}
 use Rattle.report_text.specs.Report.{blocker-word}
 use Rattle.report_text.proofs.put_blocker.Statement.{statement}
 use Rattle.report_text.proofs.put_blocker.Tie as tie
-use Rattle.report_text.proofs.put_blocker.Reads as reads
-use Rattle.report_text.proofs.put_blocker.Lts as lts
-use Rattle.report_text.proofs.put_number_and.Reads as put-number-and-reads
-use Rattle.report_text.proofs.put_word.Reads as put-word-reads
 
 enum-known-blocker : tie.Need-enum-known-blocker
 enum-known-blocker c = search needs

@@ -3,8 +3,6 @@ use borrow.Author.Needs.{needs}
 use Rattle.report_text.proofs.Put.{put-one}
 use Rattle.report_text.proofs.put_byte.Statement.{statement}
 use Rattle.report_text.proofs.put_byte.Tie as tie
-use Rattle.report_text.proofs.put_byte.Reads as reads
-use Rattle.report_text.proofs.put_byte.Lts as lts
 
 slice-write-buffer : tie.Need-slice-write-buffer
 slice-write-buffer c = search needs

@@ -4,11 +4,6 @@ use Rattle.report_text.specs.Words.{line}
 use Rattle.report_text.specs.Report.{first-line}
 use Rattle.report_text.proofs.put_first_line.Statement.{statement}
 use Rattle.report_text.proofs.put_first_line.Tie as tie
-use Rattle.report_text.proofs.put_first_line.Reads as reads
-use Rattle.report_text.proofs.put_first_line.Lts as lts
-use Rattle.report_text.proofs.put_missed.Reads as put-missed-reads
-use Rattle.report_text.proofs.put_word_and_number.Reads as put-word-and-number-reads
-use Rattle.sheet.proofs.Refusal.number.Reads as number-reads
 
 enum-told : tie.Need-enum-told
 enum-told c = search needs

@@ -8,9 +8,6 @@ use Rattle.report_text.proofs.Decimal.{number-length, two-digits}
 use Rattle.report_text.proofs.Line.{put-spaced-one, put-spaced}
 use Rattle.report_text.proofs.put_head.Statement.{statement}
 use Rattle.report_text.proofs.put_head.Tie as tie
-use Rattle.report_text.proofs.put_head.Reads as reads
-use Rattle.report_text.proofs.put_head.Lts as lts
-use Rattle.report_text.proofs.put_number_and.Reads as put-number-and-reads
 
 put-number-and-requires : tie.Need-put-number-and-requires
 put-number-and-requires c κs = search needs

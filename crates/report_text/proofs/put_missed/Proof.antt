@@ -8,11 +8,6 @@ use Rattle.report_text.proofs.Decimal.{number-length}
 use Rattle.report_text.proofs.Lines.{missed-line, word-length}
 use Rattle.report_text.proofs.put_missed.Statement.{statement}
 use Rattle.report_text.proofs.put_missed.Tie as tie
-use Rattle.report_text.proofs.put_missed.Reads as reads
-use Rattle.report_text.proofs.put_missed.Lts as lts
-use Rattle.report_text.proofs.put_blocker.Reads as put-blocker-reads
-use Rattle.report_text.proofs.put_number_and.Reads as put-number-and-reads
-use Rattle.report_text.proofs.put_word_and_number.Reads as put-word-and-number-reads
 
 slice-aggregate-put-word-and-number : tie.Need-slice-aggregate-put-word-and-number
 slice-aggregate-put-word-and-number c = search needs

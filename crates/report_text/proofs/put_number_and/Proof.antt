@@ -5,10 +5,6 @@ use Rattle.report_text.proofs.Put.{put-room, put-then}
 use Rattle.report_text.proofs.Decimal.{decimal-length}
 use Rattle.report_text.proofs.put_number_and.Statement.{statement}
 use Rattle.report_text.proofs.put_number_and.Tie as tie
-use Rattle.report_text.proofs.put_number_and.Reads as reads
-use Rattle.report_text.proofs.put_number_and.Lts as lts
-use Rattle.report_text.proofs.put_byte.Reads as put-byte-reads
-use Rattle.report_text.proofs.put_number.Reads as put-number-reads
 
 put-number-requires : tie.Need-put-number-requires
 put-number-requires c κs = omega (arith, decimal-length (c .before .before .args .n))

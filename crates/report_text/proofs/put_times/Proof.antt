@@ -9,9 +9,6 @@ use Rattle.report_text.proofs.Put.{put-none}
 use Rattle.report_text.proofs.Line.{begun, begun-none, begun-room, begun-kept, put-more, put-last}
 use Rattle.report_text.proofs.put_times.Statement.{statement}
 use Rattle.report_text.proofs.put_times.Tie as tie
-use Rattle.report_text.proofs.put_times.Reads as reads
-use Rattle.report_text.proofs.put_times.Lts as lts
-use Rattle.report_text.proofs.put_number_and.Reads as put-number-and-reads
 
 abbrev Inv-loop : tie.InvT-loop
 Inv-loop buffer₀ at times last next₀ k₀ buffer next k =

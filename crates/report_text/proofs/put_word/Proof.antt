@@ -8,8 +8,6 @@ use Rattle.analysis.proofs.ByNumber.{put, none-put, length-put, put-more}
 use Rattle.report_text.proofs.Put.{all-copied}
 use Rattle.report_text.proofs.put_word.Statement.{statement}
 use Rattle.report_text.proofs.put_word.Tie as tie
-use Rattle.report_text.proofs.put_word.Reads as reads
-use Rattle.report_text.proofs.put_word.Lts as lts
 
 abbrev Inv-loop : tie.InvT-loop
 Inv-loop buffer₀ at word count i₀ buffer i =

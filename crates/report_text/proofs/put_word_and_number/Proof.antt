@@ -4,10 +4,6 @@ use native.Mathlib.Omega.{arith}
 use Rattle.report_text.proofs.Put.{put-then}
 use Rattle.report_text.proofs.put_word_and_number.Statement.{statement}
 use Rattle.report_text.proofs.put_word_and_number.Tie as tie
-use Rattle.report_text.proofs.put_word_and_number.Reads as reads
-use Rattle.report_text.proofs.put_word_and_number.Lts as lts
-use Rattle.report_text.proofs.put_number_and.Reads as put-number-and-reads
-use Rattle.report_text.proofs.put_word.Reads as put-word-reads
 
 put-word-requires : tie.Need-put-word-requires
 put-word-requires c κs = search needs

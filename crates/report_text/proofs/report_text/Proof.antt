@@ -4,7 +4,6 @@ use mathlib.Core.List.{_++_}
 use mathlib.Core.Path.{ap, _∙_}
 use Prim.Native.Nat.{_*_, zero-le}
 use native.Mathlib.Omega.{arith}
-use denote.Ref.{now}
 use Rattle.sheet.specs.Constants.{most-tasks}
 use Rattle.analysis.specs.declared.Analysis.{Analysis}
 use Rattle.report_text.specs.Report.{first-line}

@@ -5,10 +5,6 @@ use Rattle.analysis.specs.Answers.{first-miss, blockers, code}
 use borrow.Author.Needs.{needs}
 use Rattle.analysis.proofs.Outcome.code.Statement.{statement}
 use Rattle.analysis.proofs.Outcome.code.Tie as tie
-use Rattle.analysis.proofs.Outcome.code.Reads as reads
-use Rattle.analysis.proofs.Outcome.code.Lts as lts
-use Rattle.analysis.proofs.blocker_code.Reads as blocker-code-reads
-use Rattle.sheet.proofs.Refusal.number.Reads as number-reads
 
 enum-told : tie.Need-enum-told
 enum-told c = search needs

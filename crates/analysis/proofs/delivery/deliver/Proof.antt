@@ -1,11 +1,10 @@
 -- `deliver` meets its contract: after p places the times of these stand at their numbers.
-use mathlib.Core.Path.{_≡_, refl, sym, ap, _∙_}
-use Prim.Native.Nat.{ℕ, _≤_, _<_, _-_, _*_}
+use mathlib.Core.Path.{_≡_, refl}
+use Prim.Native.Nat.{_≤_, _-_, _*_}
 use native.Mathlib.Omega.{arith}
 use denote.Ref.{now}
 use lib.ListN.{length}
-use Rattle.sheet.specs.Constants.{most-tasks, most-frames}
-use Rattle.analysis.specs.Inside.Numbered.{Numbered}
+use Rattle.sheet.specs.Constants.{most-frames}
 use Rattle.analysis.proofs.ByNumber.{none-stands}
 use Rattle.analysis.proofs.Delivered.{AtNumbers, number-below, no-room, numbers-more, all-numbers}
 use borrow.Author.Needs.{needs}

@@ -1,5 +1,5 @@
 -- `finding` meets its contract.
-use mathlib.Core.Path.{_≡_, refl}
+use mathlib.Core.Path.{refl}
 use Rattle.sheet.specs.Tasks.{task-in}
 use Rattle.analysis.specs.Inside.Steps.{finding-with}
 use Rattle.analysis.proofs.ByPlace.{frames-counted}

@@ -10,12 +10,6 @@ use Rattle.analysis.proofs.InUse.{tasks-count, task-is}
 use borrow.Author.Needs.{needs}
 use Rattle.analysis.proofs.findings.findings_of.Statement.{statement}
 use Rattle.analysis.proofs.findings.findings_of.Tie as tie
-use Rattle.analysis.proofs.findings.findings_of.Reads as reads
-use Rattle.analysis.proofs.findings.findings_of.Lts as lts
-use Rattle.analysis.proofs.findings.finding_of.Reads as finding-of-reads
-use Rattle.analysis.proofs.findings.start_of.Reads as start-of-reads
-use Rattle.order.proofs.blocking.Reads as blocking-reads
-use Rattle.sheet.proofs.tasks_in.Reads as tasks-in-reads
 
 abbrev Inv-loop : tie.InvT-loop
 Inv-loop o tasks numbers count findings₀ above₀ p₀ findings above p =

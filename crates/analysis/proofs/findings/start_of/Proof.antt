@@ -10,9 +10,6 @@ use Rattle.admission.specs.declared.Start.the-variants.{At, Nowhere}
 use borrow.Author.Needs.{needs}
 use Rattle.analysis.proofs.findings.start_of.Statement.{statement}
 use Rattle.analysis.proofs.findings.start_of.Tie as tie
-use Rattle.analysis.proofs.findings.start_of.Reads as reads
-use Rattle.analysis.proofs.findings.start_of.Lts as lts
-use Rattle.admission.proofs.start_frame.Reads as start-frame-reads
 
 start-frame-requires : tie.Need-start-frame-requires
 start-frame-requires c κs = search needs

@@ -1,24 +1,19 @@
 -- `times_of` meets its contract: after k frames, the first k times stand.
-use mathlib.Core.Path.{_≡_, refl, sym, ap, _∙_}
-use Prim.Native.Nat.{ℕ, _≤_, _<_, _-_, _+_}
+use mathlib.Core.Path.{_≡_, sym, ap, _∙_}
+use Prim.Native.Nat.{ℕ, _≤_, _<_, _-_}
 use mathlib.Core.Logic.{⊎-elim}
 use native.Mathlib.Omega.{arith}
-use lib.ListN.{length, getD, take}
+use lib.ListN.{length, take}
 use Rattle.theory.specs.Tasks.{shortest-deadline}
 use Rattle.sheet.specs.Constants.{most-frames}
 use Rattle.sheet.specs.Tasks.{task-in}
 use Rattle.response.specs.Response.{response-to}
 use Rattle.analysis.specs.Inside.Steps.{as-written}
 use Rattle.order.proofs.Filled.{filled, none-filled}
-use Rattle.analysis.proofs.ByPlace.{times-in, one-deadline, up-to-more, up-to-length, up-to-all, places-to}
+use Rattle.analysis.proofs.ByPlace.{times-in, one-deadline, up-to-more, up-to-all, places-to}
 use borrow.Author.Needs.{needs}
 use Rattle.analysis.proofs.findings.times_of.Statement.{statement}
 use Rattle.analysis.proofs.findings.times_of.Tie as tie
-use Rattle.analysis.proofs.findings.times_of.Reads as reads
-use Rattle.analysis.proofs.findings.times_of.Lts as lts
-use Rattle.analysis.proofs.findings.written.Reads as written-reads
-use Rattle.response.proofs.respond.Reads as respond-reads
-use Rattle.sheet.proofs.frames_in.Reads as frames-in-reads
 
 abbrev Inv-loop : tie.InvT-loop
 Inv-loop above blocked task largest known frames count times₀ k₀ times k =
