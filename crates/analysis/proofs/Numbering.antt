@@ -10,7 +10,7 @@ use lib.Dec.{eqb}
 use lib.ListN.{length, getD}
 use Rattle.theory.specs.First.{first}
 use Rattle.theory.proofs.Search.{IsFirst, first-some, first-exists}
-use Rattle.order.proofs.Order.{Permutes}
+use Rattle.order.specs.Claims.{Permutes}
 use Rattle.analysis.specs.Times.{number-at, place-of}
 
 module _ (n : ℕ) (order : List ℕ) (h : Permutes n order) where

@@ -13,7 +13,7 @@ use Rattle.theory.specs.Analysis.{demand-of, response-of, passes, FirstW
 use Rattle.theory.specs.Runs.{Run, Legal, TakesLonger, Takes, Misses}
 use Rattle.theory.specs.WorstRun.{worst-run}
 use Rattle.theory.proofs.Work.{largest-is}
-use Rattle.theory.proofs.Verdict.{Outcome, all-pass, one-fails, outcome, IsMissed, verdict-holds, verdict-missed, passes-frames, fails-largest, fails-first, response-of-is}
+use Rattle.theory.proofs.Verdict.{Way, all-pass, one-fails, way, IsMissed, verdict-holds, verdict-missed, passes-frames, fails-largest, fails-first, response-of-is}
 use Rattle.theory.proofs.Soundness.{takes-less, enough-by-demand, periods-above, takes-less-than-response}
 use Rattle.theory.proofs.WorstLegal.{worst-legal}
 use Rattle.theory.proofs.WorstExact.{worst-exact, worst-misses}
@@ -111,9 +111,9 @@ named-task-misses set admitted p b e =
 -- The verdict is holds if and only if no run of the set has a miss.
 pub holds-iff-no-miss : (set : List Task) → Admitted set
     → (verdict set ≡ holds) ↔ ((run : Run) → Legal set run → (p r k : ℕ) → p < length set → ¬ Misses set run p r k)
-holds-iff-no-miss set admitted = (holds-no-miss set admitted, go (outcome set))
+holds-iff-no-miss set admitted = (holds-no-miss set admitted, go (way set))
   where
-    go : Outcome set → ((run : Run) → Legal set run → (p r k : ℕ) → p < length set → ¬ Misses set run p r k) → verdict set ≡ holds
+    go : Way set → ((run : Run) → Legal set run → (p r k : ℕ) → p < length set → ¬ Misses set run p r k) → verdict set ≡ holds
     go (all-pass e pass) no-miss = e
     go (one-fails p e m) no-miss =
         let (in-set, k, first, legal, misses) = named-task-misses set admitted p _ e in

@@ -97,15 +97,15 @@ pub record IsMissed (set : List Task) (p : ℕ) (b : Option ℕ) : Type 0 where
   pub named : b ≡ blocker set p
 
 -- the answer is holds and all tasks pass, or it names the first that does not
-pub data Outcome (set : List Task) : Type 0 where
-  all-pass : verdict set ≡ holds → ((p : ℕ) → p < length set → passes set p ≡ true) → Outcome set
-  one-fails : (p : ℕ) → verdict set ≡ missed p (blocker set p) → IsMissed set p (blocker set p) → Outcome set
+pub data Way (set : List Task) : Type 0 where
+  all-pass : verdict set ≡ holds → ((p : ℕ) → p < length set → passes set p ≡ true) → Way set
+  one-fails : (p : ℕ) → verdict set ≡ missed p (blocker set p) → IsMissed set p (blocker set p) → Way set
 
-pub outcome : (set : List Task) → Outcome set
+pub way : (set : List Task) → Way set
 unfolding verdict
-outcome set = go (answer (first 0 (length set) (λ p. not (passes set p))))
+way set = go (answer (first 0 (length set) (λ p. not (passes set p))))
   where
-    go : Answer (first 0 (length set) (λ p. not (passes set p))) → Outcome set
+    go : Answer (first 0 (length set) (λ p. not (passes set p))) → Way set
     go (nothing e) = all-pass (rw (e, verdict)) (λ p h. not-false _ (first-none 0 (length set) (λ q. not (passes set q)) e p (omega arith) (omega arith)))
     go (it-is p e) =
         let f : IsFirst 0 (length set) (λ q. not (passes set q)) p = first-some 0 (length set) (λ q. not (passes set q)) e in
@@ -118,13 +118,13 @@ outcome set = go (answer (first 0 (length set) (λ p. not (passes set p))))
         })
 
 pub verdict-holds : (set : List Task) → (verdict set ≡ holds) ↔ ((p : ℕ) → p < length set → passes set p ≡ true)
-verdict-holds set = (there (outcome set), back (outcome set))
+verdict-holds set = (there (way set), back (way set))
   where
-    there : Outcome set → verdict set ≡ holds → (p : ℕ) → p < length set → passes set p ≡ true
+    there : Way set → verdict set ≡ holds → (p : ℕ) → p < length set → passes set p ≡ true
     there (all-pass e h) q = h
     there (one-fails p e m) q = let z : _≡_ {A = ℕ} 0 1 = cc in let z : ⊥ = omega arith in absurd z
 
-    back : Outcome set → ((p : ℕ) → p < length set → passes set p ≡ true) → verdict set ≡ holds
+    back : Way set → ((p : ℕ) → p < length set → passes set p ≡ true) → verdict set ≡ holds
     back (all-pass e h) a = e
     back (one-fails p e m) a = absurd (true≢false (sym (a p (m .in-set)) ∙ m .fails))
 
@@ -135,12 +135,12 @@ missed-unique : {set : List Task} {p q : ℕ} {b c : Option ℕ} → IsMissed se
 missed-unique m n = le-antisymm (missed-no-later m n) (missed-no-later n m)
 
 pub verdict-missed : (set : List Task) {p : ℕ} {b : Option ℕ} → (verdict set ≡ missed p b) ↔ IsMissed set p b
-verdict-missed set {p} {b} = (there (outcome set), back (outcome set))
+verdict-missed set {p} {b} = (there (way set), back (way set))
   where
-    there : Outcome set → verdict set ≡ missed p b → IsMissed set p b
+    there : Way set → verdict set ≡ missed p b → IsMissed set p b
     there (all-pass e h) q = let z : _≡_ {A = ℕ} 0 1 = cc in let z : ⊥ = omega arith in absurd z
     there (one-fails u e m) q = let same : u ≡ p = cc in let name : blocker set u ≡ b = cc in subst₂ (IsMissed set) same name m
 
-    back : Outcome set → IsMissed set p b → verdict set ≡ missed p b
+    back : Way set → IsMissed set p b → verdict set ≡ missed p b
     back (all-pass e h) m = absurd (true≢false (sym (h p (m .in-set)) ∙ m .fails))
     back (one-fails u e n) m = e ∙ ap (λ x. missed x (blocker set x)) (missed-unique n m) ∙ ap (missed p) (sym (m .named))

@@ -26,7 +26,8 @@ use Rattle.sheet.proofs.Small.{number-small}
 use Rattle.sheet.proofs.Checks.{none-applies, one-applies}
 use Rattle.sheet.proofs.Carried.{by-reading, reading-answer}
 use Rattle.order.specs.Order.{priority-order, ordered-set}
-use Rattle.order.proofs.Order.{Permutes, order-permutes}
+use Rattle.order.specs.Claims.{Permutes}
+use Rattle.order.proofs.Order.{order-permutes}
 use Rattle.analysis.specs.Times.{number-at, blocker-number, verdict-number, outcome-of, times-of}
 use Rattle.analysis.specs.Answers.{blocker-code, code, refused-analysis, analysis-by, sheet-analysis}
 use Rattle.analysis.specs.Findings.{in-turn, times-by-number}

@@ -17,7 +17,7 @@ use Rattle.sheet.proofs.Carried.{by-admission, count-in-use}
 use Rattle.sheet.proofs.Counts.{count-passed, known-small}
 
 -- what the fields of a record in use need
-pub record Ready (r : Record) : Type 0 where
+pub record Puttable (r : Record) : Type 0 where
   pub few : r .«frame_count» ≤ most-frames
   pub ranged : in-range (task-in r) ≡ true
 
@@ -46,8 +46,8 @@ module _ (s : TaskSet) (e : admission s ≡ Admitted) (long : length (s .tasks) 
   unfolding admission list-checks
   counts-admitted = both-passed (frame-count-checks 0 (records-of s)) _ (passed _ _ (passed _ _ e .1) .1) .0
 
-  pub ready : (i : ℕ) (d : Record) → i < length (records-of s) → Ready (getD (records-of s) i d)
-  ready i d h =
+  pub puttable : (i : ℕ) (d : Record) → i < length (records-of s) → Puttable (getD (records-of s) i d)
+  puttable i d h =
       record {
         few = counts-in 0 (records-of s) counts-admitted i d h;
         ranged = ranges-in 0 (records-of s) (by-admission s long e .formed) i d h;

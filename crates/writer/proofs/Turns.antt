@@ -19,7 +19,7 @@ use Rattle.records.specs.Faces.{end-of, width-of}
 use Rattle.records.specs.Inside.Steps.{Placed}
 use Rattle.records.proofs.Placing.{placed-none, placed-behind}
 use Rattle.records.proofs.Putting.{room-behind}
-use Rattle.writer.proofs.Admitted.{Ready, ready, tasks-in}
+use Rattle.writer.proofs.Admitted.{Puttable, puttable, tasks-in}
 use Rattle.writer.proofs.Sets.{records-bits, no-records, records-of-bits, record-more, records-part, bits-most, size-is}
 
 -- an admitted set, whose array has its sixteen places
@@ -27,10 +27,10 @@ module _ (s : TaskSet) (e : admission s ≡ Admitted) (long : length (s .tasks) 
   pub in-use : s .«task_count» ≤ length (s .tasks)
   in-use = rw long (tasks-in s e long)
 
-  pub ready-at : (i : ℕ) (d : Record) → i < s .«task_count» → Ready (getD (s .tasks) i d)
+  pub puttable-at : (i : ℕ) (d : Record) → i < s .«task_count» → Puttable (getD (s .tasks) i d)
   unfolding records-of
-  ready-at i d h =
-      rw (getD-take (s .«task_count») (s .tasks) i d h) at (ready s e long i d (rw (length-take-le (s .«task_count») (s .tasks) in-use) h))
+  puttable-at i d h =
+      rw (getD-take (s .«task_count») (s .tasks) i d h) at (puttable s e long i d (rw (length-take-le (s .«task_count») (s .tasks) in-use) h))
 
   part-at : (i : ℕ) (d : Record) → i < s .«task_count»
       → length (records-bits (take i (s .tasks))) + length (task-bits (task-in (getD (s .tasks) i d))) ≤ length (records-bits (records-of s))

@@ -3,7 +3,7 @@ use mathlib.Core.Path.{_≡_}
 use Prim.Native.Nat.{ℕ, _≤_, _<_}
 use lib.ListN.{length}
 use Rattle.sheet.specs.Constants.{most-tasks, most-frames}
-use Rattle.order.proofs.Order.{Permutes}
+use Rattle.order.specs.Claims.{Permutes}
 use Rattle.analysis.specs.Findings.{found, numbers-found}
 use Rattle.analysis.specs.declared.Analysis.{Analysis}
 

@@ -5,7 +5,7 @@ use native.Mathlib.Omega.{arith}
 use lib.ListN.{length, length-map}
 use Rattle.sheet.specs.Constants.{most-tasks}
 use Rattle.writer.proofs.Admitted.{tasks-in}
-use Rattle.writer.proofs.Turns.{ready-at, Stand, stand-none, stand-space, stand-more, stand-all}
+use Rattle.writer.proofs.Turns.{puttable-at, Stand, stand-none, stand-space, stand-more, stand-all}
 use borrow.Author.Needs.{needs}
 use Rattle.writer.proofs.put_tasks.Statement.{statement}
 use Rattle.writer.proofs.put_tasks.Tie as tie
@@ -37,7 +37,7 @@ put-task-requires c κs =
     let a = c .before .before .before .before .before in
     let p = c .before .before .before .loop .inv in
     let l = c .before .before .loop-test .taken in
-    let r = ready-at _ (a .pre .0) (long a) _ _ l in
+    let r = puttable-at _ (a .pre .0) (long a) _ _ l in
     (r .few, r .ranged, stand-space _ (a .pre .0) (long a) _ _ (a .pre .1) p _ l)
 
 add-i : tie.Need-add-i Inv-loop μ-loop

@@ -5,7 +5,7 @@ use native.Mathlib.Omega.{arith}
 use lib.ListN.{length, length-map}
 use Rattle.sheet.specs.Constants.{most-tasks}
 use Rattle.writer.proofs.Admitted.{tasks-in}
-use Rattle.writer.proofs.Turns.{ready-at, Counted, counted-none, counted-small, counted-more, counted-size}
+use Rattle.writer.proofs.Turns.{puttable-at, Counted, counted-none, counted-small, counted-more, counted-size}
 use borrow.Author.Needs.{needs}
 use Rattle.writer.proofs.sheet_size.Statement.{statement}
 use Rattle.writer.proofs.sheet_size.Tie as tie
@@ -45,7 +45,7 @@ task-width-requires : tie.Need-task-width-requires Inv-loop μ-loop
 task-width-requires c κs =
     let t = c .before in
     let a = t .before .before .before .before .before in
-    ready-at _ (a .pre) (long a) _ _ (t .loop-test .taken) .few
+    puttable-at _ (a .pre) (long a) _ _ (t .loop-test .taken) .few
 
 add-bits : tie.Need-add-bits Inv-loop μ-loop
 add-bits c =
