@@ -25,12 +25,12 @@ use Rattle.analysis.proofs.Entries.{few}
 use Rattle.analysis.proofs.Numbering.{place-back}
 use Rattle.analysis.proofs.Numbering.{number-in as number-below}
 use Rattle.analysis.proofs.TimesAt.{length-times}
-use Rattle.analysis.proofs.Promises.{outcome-not-refused, holds-then-passes, times-of-place}
+use Rattle.analysis.proofs.Promises.{outcome-not-refused, holds-then-passes, missed-names, times-of-place}
 use Rattle.report_text.specs.Words.{holds-word, missed-word, refused-word, decimal, line}
 use Rattle.report_text.specs.Report.{blocker-word, first-line, time-words, task-line, task-lines, report}
 use Rattle.report_text.specs.Text.{text-of}
 use Rattle.signed.specs.Claims.{holds, missed, refused, said, in-numbers, WorstTime, Signed}
-use Rattle.signed.specs.Reports.{words-in, number-in, blocker-in, said-in, task-words, TimedWords, MissedWords, lines, Lines, text-in, ReportSigned}
+use Rattle.signed.specs.Reports.{words-in, number-in, blocker-in, said-in, task-words, TimedWords, MissedWords, WordsUpTo, lines, Lines, text-in, ReportSigned}
 use Rattle.signed.proofs.Words.{Plain, AllPlain, words-of-line, decimal-plain, decimal-no-dash, number-read}
 use Rattle.signed.proofs.Numbers.{refusal-range}
 use Rattle.signed.proofs.Times.{worst-time, some-miss}
@@ -184,22 +184,22 @@ module _ (policy : ℕ) (tasks : List Task) (sound : Sound policy tasks) where
       (omega (arith, s .0 .in-set, sound .carried .few-tasks), λ q e. omega (arith, s .0 .blocker-in-set q e, sound .carried .few-tasks))
   small-by (Refused r) before after s = tt
 
-  count-read : number-in (decimal (length tasks)) ≡ length tasks
-  count-read = number-read (length tasks) (omega (arith, sound .carried .few-tasks))
-
   reported-so : (o : Outcome) (before after : List ℕ) → outcome-of policy tasks ≡ o → Signed policy tasks in-numbers before after (said o)
       → ReportSigned policy tasks text (said o)
-  unfolding Signed ReportSigned said
+  unfolding Signed ReportSigned said first-words
   reported-so Holds before after e s = (
     s .0,
-    ap (λ (ws : List (List ℕ)). number-in (getD ws 1 [])) (text-words ∙ ap (λ (o : Outcome). first-words o (length tasks)) e) ∙ unfold first-words in count-read,
+    text-words ∙ ap (λ (o : Outcome). first-words o (length tasks)) e,
     lines-of (TimedWords policy tasks)
         (λ q hq. timed q hq (ap (passes set) (sym (here q hq)) ∙ holds-then-passes policy tasks (sound .admitted) e (number-at order q) (inside q hq))),
+    sound .admitted,
   )
   reported-so (Missed p b) before after e s = (
     s .0,
-    ap (λ (ws : List (List ℕ)). number-in (getD ws 1 [])) (text-words ∙ ap (λ (o : Outcome). first-words o (length tasks)) e) ∙ unfold first-words in count-read,
-    lines-of (λ q ws. TimedWords policy tasks q ws ⊎ MissedWords policy tasks q ws) either,
+    text-words ∙ ap (λ (o : Outcome). first-words o (length tasks)) e,
+    lines-of (WordsUpTo policy tasks p)
+        (λ q hq. record { either = either q hq; above = λ h. timed q hq (missed-names policy tasks (sound .admitted) p b e .1 q h) }),
+    sound .admitted,
   )
   reported-so (Refused r) before after e s = absurd (outcome-not-refused policy tasks r e)
 
@@ -231,10 +231,9 @@ module _ (policy : ℕ) (tasks : List Task) (why : Refusal) where
   refusing = ap said-in refusal-words ∙ said-back (Refused why) (length tasks) tt
 
   refusal-signed : ReportSigned policy tasks refusal-line (said-in (words-in refusal-line))
-  unfolding ReportSigned
+  unfolding ReportSigned first-words
   refusal-signed =
-      subst (ReportSigned policy tasks refusal-line) (sym refusing)
-      (refusal-range why .0, refusal-range why .1, line-of-words (Refused why) (length tasks) ∙ ap line (sym refusal-words))
+      subst (ReportSigned policy tasks refusal-line) (sym refusing) (refusal-range why .0, refusal-range why .1, line-of-words (Refused why) (length tasks))
 
 pub report-promised : (policy : ℕ) (tasks : List Task) (text : List ℕ) → Reported policy tasks text → ReportSigned policy tasks text (said-in (words-in text))
 report-promised policy tasks text (no-report why) = refusal-signed policy tasks why

@@ -17,7 +17,7 @@ use Rattle.lent.specs.Lent.{laid}
 use Rattle.lent.proofs.Laid.{take-laid}
 use Rattle.sheet.specs.Constants.{most-tasks, most-frames}
 use Rattle.sheet.specs.Refusals.{number-of}
-use Rattle.sheet.specs.Tasks.{task-in, records-of}
+use Rattle.sheet.specs.Tasks.{task-in, record-of, records-of}
 use Rattle.sheet.specs.Admission.{decided, list-checks, admission}
 use Rattle.sheet.specs.Reading.{sheet-checks, policy-of, tasks-of, reading}
 use Rattle.sheet.specs.Writing.{sheet-of}
@@ -50,7 +50,7 @@ use Rattle.report_text.specs.Words.{refused-word, decimal, line}
 use Rattle.report_text.specs.Report.{first-line, report}
 use Rattle.report_text.specs.declared.Text.{Text}
 use Rattle.signed.specs.Calls.{ReportText, AnalyseSet, AnalyseSheet, AnalyseList, ReadList, WriteList, CheckSheetC, AnalyseListC, ReadListC, WriteListC}
-use Rattle.signed.specs.Claims.{said, holds, missed, refused, in-numbers, in-bytes, Signed, refusal-to, Damaged}
+use Rattle.signed.specs.Claims.{said, holds, missed, refused, in-numbers, in-bytes, WorstTime, Signed, refusal-to, Damaged}
 use Rattle.signed.specs.Numbers.{blocker-by, said-by, IsNumber, read-by, written-by, outcome-by}
 use Rattle.signed.specs.Reports.{words-in, said-in, text-in, ReportSigned}
 use Rattle.signed.proofs.Report.{text-back, not-refusing, refusing, report-promised}
@@ -243,6 +243,20 @@ module _ (sheet changed : List ℕ) (admitted : reading sheet .answer ≡ Admitt
 
 -- ---- Demand 2, of lists
 
+-- What `read_list` leaves where it answers with a policy and a count: a record of each task of the sheet, 0 in frame places past its count.
+pub read-list-fills : (sheet : List ℕ) (before after : List Record) (policy n : ℕ)
+    → ReadList sheet before (Set policy n) after
+    → (reading sheet .answer ≡ Admitted) × (policy ≡ policy-of sheet) × (take n after ≡ map record-of (tasks-of sheet))
+read-list-fills sheet before after policy n r =
+    trip.read-records sheet before after policy n (Set policy n) refl (subst₂ (doors.Read sheet before) (sym (r .answers)) (sym (r .leaves)) (doors.read-door sheet before))
+
+-- What `write_list` leaves where it answers with a number of bytes: the sheet of the policy and the tasks.
+pub write-list-writes : (policy : ℕ) (list : List Record) (before after : List ℕ) (n : ℕ)
+    → WriteList policy list before (Bytes n) after
+    → take n after ≡ sheet-of policy (map task-in list)
+write-list-writes policy list before after n w =
+    trip.written-sheet policy list before after n (Bytes n) refl (subst₂ (doors.Wrote policy list before) (sym (w .answers)) (sym (w .leaves)) (doors.write-door policy list before)) .1
+
 -- `write_list`, then `read_list` of the bytes written into a list that is long enough: the same policy and the same tasks over the places in use.
 pub write-then-read-list : (policy : ℕ) (list before after : List Record) (room written : List ℕ) (n : ℕ) (answer : ListRead)
     → WriteList policy list room (Bytes n) written
@@ -299,6 +313,12 @@ pub read-then-write-list-c : (sheet room written : List ℕ) (before after : Lis
 read-then-write-list-c sheet room written before after policy n number answer byte r e fits w =
     read-then-write-list sheet room written before after policy n (written-by answer) byte
     (rw e at (read-list-c-says sheet before after number r)) fits (write-list-c-says policy (take n after) room written answer w)
+
+-- ---- Demand 3: a time that is written is a time
+
+-- Zero is no worst time, so that a task with its times has no zero among its frames.
+pub no-worst-time-is-zero : (policy : ℕ) (tasks : List Task) (i k : ℕ) → ¬ WorstTime policy tasks i k 0
+no-worst-time-is-zero policy tasks i k w = omega (arith, w .least .positive)
 
 -- ---- Demand 3: what the answer says is so of every run, and the lent memory holds the worst times
 

@@ -95,6 +95,6 @@ module _ (policy : ℕ) (tasks : List Task) (admitted : Admitted tasks) (eight :
     signed kept before after same surplus = go (outcome-of policy tasks) refl
       where
         go : (o : Outcome) → outcome-of policy tasks ≡ o → Signed policy tasks kept before after (said o)
-        go Holds e = (holds-then-no-miss policy tasks admitted e, λ i hi. rw (← same) (timed i hi (holds-then-passes policy tasks admitted e i hi)), surplus)
-        go (Missed p b) e = (named p b e, rw (← same) (up-to p b e), surplus)
+        go Holds e = (holds-then-no-miss policy tasks admitted e, λ i hi. rw (← same) (timed i hi (holds-then-passes policy tasks admitted e i hi)), surplus, admitted)
+        go (Missed p b) e = (named p b e, rw (← same) (up-to p b e), surplus, admitted)
         go (Refused why) e = absurd (outcome-not-refused policy tasks why e)

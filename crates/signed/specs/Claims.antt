@@ -10,6 +10,7 @@ use lib.ListN.{length, getD, drop}
 use Rattle.bits.specs.Packed.{Bytes, bits-of}
 use Rattle.check_word.specs.Change.{AgreeOutside}
 use Rattle.theory.specs.Tasks.{Task, task-at, frame-count, deadline-of}
+use Rattle.theory.specs.Tasks.{Admitted as IsAdmitted}
 use Rattle.theory.specs.Analysis.{IsResponse, demand-of, blocker}
 use Rattle.theory.specs.Runs.{Run}
 use Rattle.sheet.specs.Constants.{most-frames}
@@ -105,16 +106,19 @@ pub record Surplus (kept : Kept) (n : ℕ) (before after : List ℕ) : Type 0 wh
   pub same-length : length after ≡ length before
   pub same-behind : drop (size kept * (most-frames * n)) after ≡ drop (size kept * (most-frames * n)) before
 
--- What we sign for each answer to the tasks: of the runs, and of the lent memory before and after the call.
+-- What we sign for each answer to the tasks: of the runs, and of the lent memory before and after the call. Tasks that are analysed are
+-- admitted: one or more, each well formed, with a frame, its lock in order, monotonic.
 unfoldable pub Signed : (policy : ℕ) (tasks : List Task) (kept : Kept) (before after : List ℕ) → Said → Type 0
 Signed policy tasks kept before after holds =
     NoMiss policy tasks
     × ((i : ℕ) → i < length tasks → Timed policy tasks (time-in kept after) i)
     × Surplus kept (length tasks) before after
+    × IsAdmitted tasks
 Signed policy tasks kept before after (missed p b) =
     Named policy tasks p b
     × TimesUpTo policy tasks (time-in kept after) p
     × Surplus kept (length tasks) before after
+    × IsAdmitted tasks
 Signed policy tasks kept before after (refused number) = (1 ≤ number) × (number ≤ 12) × (after ≡ before)
 
 -- ---- demand 1

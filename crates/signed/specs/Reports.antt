@@ -7,12 +7,15 @@ use Prim.Native.Nat.{ℕ, zero, suc, _+_, _-_, _*_, _≤_, _<_}
 use lib.Dec.{eqb}
 use lib.ListN.{length, getD, take}
 use Rattle.theory.specs.Tasks.{Task, task-at, frame-count, shortest-deadline}
+use Rattle.theory.specs.Tasks.{Admitted as IsAdmitted}
 use Rattle.theory.specs.Analysis.{lower, blocking}
 use Rattle.order.specs.Order.{priority-order, ordered-set}
 use Rattle.order.specs.declared.Blocker.{Blocker}
 use Rattle.order.specs.declared.Blocker.the-variants.{At, Nobody}
 use Rattle.analysis.specs.Times.{number-at}
-use Rattle.report_text.specs.Words.{missed-word, decimal, line}
+use Rattle.analysis.specs.Runs.{place}
+use Rattle.report_text.specs.Words.{holds-word, missed-word, refused-word, decimal, line}
+use Rattle.report_text.specs.Report.{blocker-word}
 use Rattle.report_text.specs.declared.Text.{Text}
 use Rattle.signed.specs.Claims.{Said, holds, missed, refused, NoMiss, SomeMiss, WorstTime, Named}
 
@@ -73,6 +76,11 @@ pub record MissedWords (policy : ℕ) (tasks : List Task) (q : ℕ) (words : Lis
   pub misses : SomeMiss policy tasks (number-at (priority-order policy tasks) q)
   pub are : words ≡ task-words policy tasks q ++ (missed-word ∷ [])
 
+-- one or the other; above task p the worst times
+pub record WordsUpTo (policy : ℕ) (tasks : List Task) (p q : ℕ) (words : List (List ℕ)) : Type 0 where
+  pub either : TimedWords policy tasks q words ⊎ MissedWords policy tasks q words
+  pub above : q < place policy tasks p → TimedWords policy tasks q words
+
 -- the lines of n places from place q on
 unfoldable pub lines : (ℕ → List (List ℕ)) → ℕ → ℕ → List ℕ
 lines words q zero = []
@@ -88,14 +96,16 @@ pub record Lines (n : ℕ) (Words : ℕ → List (List ℕ) → Type 0) (text : 
 unfoldable pub text-in : Text → List ℕ
 text-in t = take (t .length) (t .bytes)
 
--- What we sign for a report on these tasks, by what its first line says; its second word is the task count.
+-- What we sign for a report on these tasks, by what its first line says: the words of that line, and the line of each task.
 unfoldable pub ReportSigned : ℕ → List Task → List ℕ → Said → Type 0
 ReportSigned policy tasks text holds =
     NoMiss policy tasks
-    × (number-in (getD (words-in text) 1 []) ≡ length tasks)
+    × (words-in text ≡ holds-word ∷ decimal (length tasks) ∷ [])
     × Lines (length tasks) (TimedWords policy tasks) text
+    × IsAdmitted tasks
 ReportSigned policy tasks text (missed p b) =
     Named policy tasks p b
-    × (number-in (getD (words-in text) 1 []) ≡ length tasks)
-    × Lines (length tasks) (λ q ws. TimedWords policy tasks q ws ⊎ MissedWords policy tasks q ws) text
-ReportSigned policy tasks text (refused number) = (1 ≤ number) × (number ≤ 12) × (text ≡ line (words-in text))
+    × (words-in text ≡ missed-word ∷ decimal (length tasks) ∷ decimal p ∷ blocker-word b ∷ [])
+    × Lines (length tasks) (WordsUpTo policy tasks p) text
+    × IsAdmitted tasks
+ReportSigned policy tasks text (refused number) = (1 ≤ number) × (number ≤ 12) × (text ≡ line (refused-word ∷ decimal number ∷ []))

@@ -1,1 +1,47 @@
-// No code: what we sign for in specs/, its theorems in proofs/.
+// What we sign for, of the functions themselves: each calls one entry, and its contract is the theorem. They are proved and never called.
+ghost use mathlib.Core.List.{map};
+ghost use lib.ListN.{take};
+ghost use Rattle.sheet.specs.Tasks.{task-in};
+ghost use Rattle.sheet.specs.Reading.{policy-of, tasks-of};
+ghost use Rattle.signed.specs.Claims.{said, in-numbers, in-bytes, Signed};
+ghost use Rattle.signed.specs.Numbers.{said-by};
+ghost use Rattle.signed.specs.Reports.{words-in, said-in, text-in, ReportSigned};
+use analysis::Outcome;
+use report_text::Text;
+use sheet::Sheet;
+use sheet::Task;
+use sheet::TaskSet;
+
+fn analyse_set(
+    policy: u32,
+    count: u32,
+    tasks: [Task; Sheet::TASK_ROOM],
+    times: &mut [u32],
+) -> Outcome
+    ensures { λ r. ⌜ Signed policy (map task-in (take count tasks)) in-numbers (now (times .entry)) (now (times .exit)) (said r) ⌝ }
+{
+    let set = TaskSet {
+        policy,
+        task_count: count,
+        tasks,
+    };
+    analysis::analyse_set(set, times)
+}
+
+fn analyse_sheet(bytes: &[u8], times: &mut [u32]) -> Outcome
+    ensures { λ r. ⌜ Signed (policy-of (now (bytes .entry))) (tasks-of (now (bytes .entry))) in-numbers (now (times .entry)) (now (times .exit)) (said r) ⌝ }
+{
+    analysis::analyse_sheet(bytes, times)
+}
+
+fn check_sheet(sheet: &[u8], times: &mut [u8]) -> u32
+    ensures { λ r. ⌜ Signed (policy-of (now (sheet .entry))) (tasks-of (now (sheet .entry))) in-bytes (now (times .entry)) (now (times .exit)) (said-by r) ⌝ }
+{
+    workbench::burrbeech_check_sheet(sheet, times)
+}
+
+fn report_text(sheet: &[u8]) -> Text
+    ensures { λ r. ⌜ ReportSigned (policy-of (now (sheet .entry))) (tasks-of (now (sheet .entry))) (text-in r) (said-in (words-in (text-in r))) ⌝ }
+{
+    report_text::report_text(sheet)
+}

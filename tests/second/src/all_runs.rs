@@ -1,4 +1,4 @@
-//! Every run of a tiny set, by 01's scheduler rules: the worst time of each frame, with nothing of the analysis but the order.
+//! Every run of a tiny set, by the scope's scheduler rules: the worst time of each frame, with nothing of the analysis but the order.
 use crate::analysis;
 use crate::task::{Set, Task};
 use std::collections::HashSet;

@@ -2,7 +2,7 @@
 use crate::sheet;
 use crate::task::{Set, Task};
 
-/// What 01 says of a case.
+/// What the scope says of a case.
 #[derive(Clone, Debug, PartialEq, Eq)]
 pub enum Expected {
     /// The times of each task, in task-number order.
@@ -21,7 +21,7 @@ pub enum Expected {
 
 #[derive(Clone, Debug)]
 pub struct Case {
-    /// The letter in small, with the policy where 01 tells two.
+    /// The letter in small, with the policy where the scope tells two.
     pub name: &'static str,
     pub set: Set,
     pub order: Vec<usize>,
@@ -32,7 +32,7 @@ fn task(period: u32, deadline: u32, lock: u32, frames: &[u32]) -> Task {
     Task { period, deadline, lock, frames: frames.to_vec() }
 }
 
-/// D = T and Q = 0, as 01 has them unless given.
+/// D = T and Q = 0, as the scope has them unless given.
 fn plain(period: u32, frames: &[u32]) -> Task {
     task(period, period, 0, frames)
 }

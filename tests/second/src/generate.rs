@@ -262,7 +262,7 @@ pub struct DamagedList {
     pub refusal: Refusal,
 }
 
-/// The admitted set's sheet with one thing wrong, in every way of 01's table but 12, with a right check word where a later refusal is meant.
+/// The admitted set's sheet with one thing wrong, in every way of the scope's table but 12, with a right check word where a later refusal is meant.
 pub fn damaged_sheets(random: &mut Random, set: &Set) -> Vec<DamagedSheet> {
     let mut damaged = Vec::new();
     let draft = Draft::of(set);
@@ -466,7 +466,7 @@ pub fn not_monotonic(random: &mut Random, good: &Task) -> Task {
     }
 }
 
-/// The admitted set's list with one thing wrong, in every way of 01's table but 12.
+/// The admitted set's list with one thing wrong, in every way of the scope's table but 12.
 pub fn damaged_lists(random: &mut Random, set: &Set) -> Vec<DamagedList> {
     let (policy, good) = (set.policy, set.list());
     let mut damaged = Vec::new();

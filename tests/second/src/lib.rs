@@ -1,4 +1,4 @@
-//! A second reading of 01, written apart from the proved code and sharing nothing with it, and the proved code's C faces to compare with.
+//! A second reading of the scope (docs/SCOPE.md), written apart from the proved code and sharing nothing with it, and the proved code's C faces to compare with.
 pub mod all_runs;
 pub mod analysis;
 pub mod bits;

@@ -3,10 +3,10 @@ use second::{cases, report, sheet, table};
 use std::io::{Read, Write};
 use std::process::ExitCode;
 
-const USAGE: &str = "second report < sheet            the report of 01
+const USAGE: &str = "second report < sheet            the report of a sheet
 second compose < table > sheet   a sheet from a table: `policy P`, then lines `T D Q frames..`
 second show < sheet > table      the table of a sheet
-second sheets DIR                writes the cases A to M of 01 as DIR/*.sheet
+second sheets DIR                writes the cases A to M as DIR/*.sheet
 This program is unproved: it is the second reading that the proved code is compared with.";
 
 fn main() -> ExitCode {

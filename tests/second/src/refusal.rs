@@ -1,6 +1,6 @@
 //! What is turned away, by number.
 
-/// 01's table of refusals, top to bottom; a task number goes with 7, 9, 10 and 11.
+/// The scope's table of refusals, top to bottom; a task number goes with 7, 9, 10 and 11.
 #[derive(Clone, Copy, Debug, PartialEq, Eq, Hash)]
 pub enum Refusal {
     Length,
@@ -35,7 +35,7 @@ impl Refusal {
         }
     }
 
-    /// The task number that is returned beside the refusal: 0 where 01 names none.
+    /// The task number that is returned beside the refusal: 0 where the scope names none.
     pub fn task(self) -> usize {
         match self {
             Refusal::FrameCount(i) | Refusal::NotWellFormed(i) | Refusal::Lock(i) | Refusal::NotMonotonic(i) => i,

@@ -1,4 +1,4 @@
-//! The sheet: its reader, with every refusal in 01's order, and its writer.
+//! The sheet: its reader, with every refusal in the scope's order, and its writer.
 use crate::refusal::Refusal;
 use crate::task::{admit_list, admit_tasks, Record, Set, Task};
 use crate::task::{DEADLINE_MONOTONIC, LISTED, MOST_FRAMES, MOST_TASKS, RATE_MONOTONIC};
@@ -46,7 +46,7 @@ impl Fields<'_> {
     }
 }
 
-/// The set in the sheet, or the first refusal in 01's order (all but 12, which depends on the room).
+/// The set in the sheet, or the first refusal in the scope's order (all but 12, which depends on the room).
 pub fn read(bytes: &[u8]) -> Result<Set, Refusal> {
     if !(LEAST..=GREATEST).contains(&bytes.len()) {
         return Err(Refusal::Length);

@@ -188,7 +188,7 @@ fn costly_sheets() {
     compared.print("costly sheets");
 }
 
-/// What 01 says of cases A to M, not what the second program says.
+/// What the scope says of cases A to M, not what the second program says.
 #[test]
 fn cases_a_to_m() {
     for case in cases() {

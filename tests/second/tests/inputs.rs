@@ -45,7 +45,7 @@ fn damaged_lists_are_refused_as_meant() {
     assert!([4, 6, 7, 9, 10, 11].iter().all(|n| by_number.contains_key(n)));
 }
 
-/// 01's order where two things are wrong.
+/// The scope's order where two things are wrong.
 #[test]
 fn order_of_a_sheet() {
     let mut random = Random::new(14);
@@ -160,7 +160,7 @@ fn filled<T: Clone>(room: usize, fits: bool, content: &[T], before: T) -> Vec<T>
     written.iter().cloned().chain(std::iter::repeat(before)).take(room).collect()
 }
 
-/// The equation as 01 says it: each t from 1 on, each job of each higher task.
+/// The equation as the scope says it: each t from 1 on, each job of each higher task.
 fn plain_response(set: &Set, order: &[usize], place: usize, frame: u32) -> Option<u32> {
     let lower = order[place + 1..].iter().map(|&i| set.tasks[i].lock).max().unwrap_or(0);
     let blocking = lower.max(1) - 1;
