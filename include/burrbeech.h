@@ -15,8 +15,8 @@ extern "C" {
 /* ---- libworkbench.a */
 
 /* Analyses the sheet of sheet_len bytes and writes the response times to times: for a sheet of n tasks the first 32 * n bytes hold eight
- * times for each task in task-number order, frame by frame, four bytes each, high byte first. A place without a frame holds 0, and so do
- * all eight places of a task that does not pass. Bytes after the first 32 * n stay as they were.
+ * times for each task in task-number order, frame by frame, four bytes each, high byte first. A slot without a frame holds 0, and so do
+ * all eight slots of a task that does not pass. Bytes after the first 32 * n stay as they were.
  *
  * Returns 0 if the set holds; 1 to 12 for a refusal, by its number (12: times_len is below 32 * n); 100 + 17 * p + b if task p misses with
  * blocker b (16 for none), p being the first task in priority order that does not pass. */
@@ -24,7 +24,7 @@ uint32_t burrbeech_check_sheet(const uint8_t *sheet, size_t sheet_len, uint8_t *
 
 /* ---- liblists.a */
 
-/* A task record. Places of frames past frame_count are not read, and are 0 when a record is filled. */
+/* A task record. Slots of frames past frame_count are not read, and are 0 when a record is filled. */
 struct burrbeech_task {
     uint32_t period;
     uint32_t deadline;

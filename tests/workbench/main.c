@@ -14,9 +14,9 @@ enum {
     NO_BLOCKER = 16
 };
 
-static uint32_t time_at(const uint8_t *times, size_t place)
+static uint32_t time_at(const uint8_t *times, size_t slot)
 {
-    const uint8_t *t = times + 4 * place;
+    const uint8_t *t = times + 4 * slot;
     return (uint32_t)t[0] << 24 | (uint32_t)t[1] << 16 | (uint32_t)t[2] << 8 | t[3];
 }
 
@@ -100,7 +100,7 @@ static void expect(const char *what, int good)
     good ? passed++ : failed++;
 }
 
-/* Bytes from a place on that are as they were before the call. */
+/* Bytes from a position on that are as they were before the call. */
 static int untouched(const uint8_t *times, size_t from)
 {
     for (size_t i = from; i < TIMES_MOST; i++) {
@@ -114,9 +114,9 @@ static int untouched(const uint8_t *times, size_t from)
 /* The two tasks of cases F and G have one frame each. */
 static int two_times(const uint8_t *times, uint32_t first, uint32_t second)
 {
-    for (size_t place = 0; place < 2 * FRAMES_MOST; place++) {
-        uint32_t expected = place == 0 ? first : place == FRAMES_MOST ? second : 0;
-        if (time_at(times, place) != expected) {
+    for (size_t slot = 0; slot < 2 * FRAMES_MOST; slot++) {
+        uint32_t expected = slot == 0 ? first : slot == FRAMES_MOST ? second : 0;
+        if (time_at(times, slot) != expected) {
             return 0;
         }
     }
@@ -150,8 +150,8 @@ static int self_test(const char *folder)
     memset(times, 0xA5, sizeof times);
     expect("no sheet (NULL, 0) is refused with 1", burrbeech_check_sheet(NULL, 0, times, sizeof times) == 1 && untouched(times, 0));
     expect("no buffer at all is refused with 1", burrbeech_check_sheet(NULL, 0, NULL, 0) == 1);
-    expect("no place for times (NULL, 0) is refused with 12", burrbeech_check_sheet(f, f_len, NULL, 0) == 12);
-    expect("a place one byte too short is refused with 12",
+    expect("no room for times (NULL, 0) is refused with 12", burrbeech_check_sheet(f, f_len, NULL, 0) == 12);
+    expect("room one byte too short is refused with 12",
            burrbeech_check_sheet(f, f_len, times, 2 * TASK_BYTES - 1) == 12 && untouched(times, 0));
 
     f[f_len - 3] ^= 1;

@@ -1,4 +1,4 @@
--- A loop over the first of some places: those that remain, turn by turn.
+-- A loop over the first of some slots: those that remain, turn by turn.
 use mathlib.Core.List.{List, [], _∷_}
 use mathlib.Core.Path.{_≡_, refl}
 use Prim.Native.Nat.{ℕ, _+_, _≤_, _<_}
@@ -6,7 +6,7 @@ use native.Mathlib.Numerals.{add-one}
 use lib.ListN.{length, getD, take, drop, drop-of-length-le}
 use lib.Seq.{drop-cons, getD-take, length-take-le}
 
--- of the first n places, those from k on
+-- of the first n slots, those from k on
 pub remaining {ℓ} : {A : Type ℓ} → List A → ℕ → ℕ → List A
 remaining xs n k = drop k (take n xs)
 

@@ -30,24 +30,24 @@ module _ (frames : List ℕ) (count : ℕ) (there : count ≤ length frames) whe
 -- after n frames from frame s the sum is the work of n jobs, and i is the frame that follows
 pub record Summed (frames : List ℕ) (count s n sum i : ℕ) : Type 0 where
   pub is-work : sum ≡ work (of-frames (take count frames)) s n
-  pub place : i ≡ (s + n) % count
+  pub position : i ≡ (s + n) % count
   pub inside : i < count
   pub small : sum ≤ 4294967295 * n
 
 pub summed-none : (frames : List ℕ) (count s : ℕ) → s < count → Summed frames count s 0 0 s
 summed-none frames count s h =
-    record { is-work = sym (work-zero _ s); place = rw (add-zero s, mod-eq-of-lt h); inside = h; small = omega arith }
+    record { is-work = sym (work-zero _ s); position = rw (add-zero s, mod-eq-of-lt h); inside = h; small = omega arith }
 
 module _ (frames : List ℕ) (count s n sum i v : ℕ) (there : count ≤ length frames) (was : Summed frames count s n sum i) (read : v ≡ getD frames i 0) where
   pub sum-more : sum + v ≡ work (of-frames (take count frames)) s (n + 1)
   sum-more =
-      rw (add-one n, work-suc (of-frames (take count frames)) s n, ← was .is-work, ← frame-mod (of-frames (take count frames)) (s + n), count-is frames count there, ← was .place, frame-is frames count there i (was .inside), ← read)
+      rw (add-one n, work-suc (of-frames (take count frames)) s n, ← was .is-work, ← frame-mod (of-frames (take count frames)) (s + n), count-is frames count there, ← was .position, frame-is frames count there i (was .inside), ← read)
 
   pub summed-more : (j : ℕ) → v < 2 ^ 32 → j ≡ next-round i count → Summed frames count s (n + 1) (sum + v) j
   summed-more j small e =
       record {
         is-work = sum-more;
-        place = e ∙ round-is i count (was .inside) ∙ rw (← add-one i, was .place, mod-add-mod (s + n) count 1, add-assoc s n 1);
+        position = e ∙ round-is i count (was .inside) ∙ rw (← add-one i, was .position, mod-add-mod (s + n) count 1, add-assoc s n 1);
         inside = rw (e, round-is i count (was .inside)) (mod-lt (suc i) (omega (arith, was .inside)));
         small = omega (arith, was .small);
       }

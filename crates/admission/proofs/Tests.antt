@@ -29,7 +29,7 @@ is-and {a} {b} f g =
 pub is-leb : (a b : ℕ) → So (leb a b) ↔ (a ≤ b)
 is-leb a b = (leb-true a b, le-leb a b)
 
--- every number of a list passes, by its places
+-- every number of a list passes, by its positions
 pub is-all : {P : ℕ → Type 0} (test : ℕ → Bool) → ((n : ℕ) → So (test n) ↔ P n) → (ns : List ℕ)
     → So (all test ns) ↔ ((k : ℕ) → k < length ns → P (getD ns k 0))
 unfolding all

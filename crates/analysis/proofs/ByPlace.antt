@@ -19,7 +19,7 @@ use Rattle.sheet.specs.declared.Task.{Task as Record}
 use Rattle.response.specs.Response.{above-in, answer, response-to}
 use Rattle.response.specs.declared.Above.{Above}
 use Rattle.response.specs.declared.Response.the-variants.{At, Never}
-use Rattle.analysis.specs.Times.{number-at, times-from, places-by, places-of}
+use Rattle.analysis.specs.Times.{number-at, times-from, slots-by, slots-of}
 use Rattle.analysis.specs.Findings.{finding-at, findings-from, findings-of}
 use Rattle.analysis.specs.Inside.Steps.{as-written, is-there, times-to, finding-with, finding-to}
 use Rattle.analysis.specs.declared.Finding.{Finding}
@@ -52,8 +52,8 @@ module _ (set : List Task) (p : ℕ) where
   finding-by : (order : List ℕ) → 1 ≤ frame-count (task-at set p)
       → let pass = found (time (largest (task-at set p .frames))) in
       finding-at order set p
-      ≡ finding-with (number-at order p) (blocking (lower set p)) (task-at set p) pass (places-by pass (map (λ c. Option·getD (time c) 0) (task-at set p .frames)))
-  unfolding finding-at finding-with places-of frame-count
+      ≡ finding-with (number-at order p) (blocking (lower set p)) (task-at set p) pass (slots-by pass (map (λ c. Option·getD (time c) 0) (task-at set p .frames)))
+  unfolding finding-at finding-with slots-of frame-count
   finding-by order h = rw (passes-by h, times-by 0 (frame-count (task-at set p)) (omega arith))
 
 -- the count of frames in use is the task's
@@ -119,22 +119,22 @@ module _ (above : Above) (blocked deadline n : ℕ) (frames : List ℕ) (small :
   pub up-to-all : (k : ℕ) → n ≡ k → up-to k ≡ times-in above blocked deadline (take n frames) ++ replicate (most-frames - length (times-in above blocked deadline (take n frames))) 0
   up-to-all k e = all-filled most-frames 0 (times-in above blocked deadline (take n frames)) k (count ∙ e)
 
-pub places-to : (above : Above) (blocked : ℕ) (r : Record) (n : ℕ) → (n ≡ min (r .«frame_count») most-frames) × (length (r .frames) ≡ most-frames)
+pub slots-to : (above : Above) (blocked : ℕ) (r : Record) (n : ℕ) → (n ≡ min (r .«frame_count») most-frames) × (length (r .frames) ≡ most-frames)
     → let times = times-in above blocked (shortest-deadline (task-in r)) (take n (r .frames)) in
-    times ++ replicate (most-frames - length times) 0 ≡ places-by true (times-to above blocked r)
-unfolding places-by
-places-to above blocked r n used = rw (times-to-in above blocked r n used)
+    times ++ replicate (most-frames - length times) 0 ≡ slots-by true (times-to above blocked r)
+unfolding slots-by
+slots-to above blocked r n used = rw (times-to-in above blocked r n used)
 
 -- a finding by the response to the largest frame
 module _ (above : Above) (number blocked : ℕ) (r : Record) where
   pub finding-there : (t : ℕ) → response-to above blocked (largest (task-in r .frames)) (shortest-deadline (task-in r)) ≡ At t
-      → finding-to above number blocked r ≡ finding-with number blocked (task-in r) true (places-by true (times-to above blocked r))
+      → finding-to above number blocked r ≡ finding-with number blocked (task-in r) true (slots-by true (times-to above blocked r))
   unfolding finding-to
   finding-there t e = rw e
 
   pub finding-never : response-to above blocked (largest (task-in r .frames)) (shortest-deadline (task-in r)) ≡ Never
       → finding-to above number blocked r ≡ finding-with number blocked (task-in r) false (replicate most-frames 0)
-  unfolding finding-to places-by
+  unfolding finding-to slots-by
   finding-never e = rw e
 
 -- the tasks above, the number, the blocking and the task are those of a place
@@ -162,14 +162,14 @@ module _ (order : List ℕ) (set : List Task) where
   length-findings p zero = refl
   length-findings p (suc n) = ap suc (length-findings (suc p) n)
 
-  finding-in : (p n i : ℕ) (d : Finding) → i < n → getD (findings-from order set p n) i d ≡ finding-at order set (p + i)
+  finding-from : (p n i : ℕ) (d : Finding) → i < n → getD (findings-from order set p n) i d ≡ finding-at order set (p + i)
   unfolding findings-from
-  finding-in p zero i d h = let z : ⊥ = omega arith in absurd z
-  finding-in p (suc n) zero d h = rw (add-zero p)
-  finding-in p (suc n) (suc i) d h = finding-in (suc p) n i d (omega arith) ∙ ap (finding-at order set) (suc-add p i ∙ sym (add-suc p i))
+  finding-from p zero i d h = let z : ⊥ = omega arith in absurd z
+  finding-from p (suc n) zero d h = rw (add-zero p)
+  finding-from p (suc n) (suc i) d h = finding-from (suc p) n i d (omega arith) ∙ ap (finding-at order set) (suc-add p i ∙ sym (add-suc p i))
 
   pub finding-first : (n i : ℕ) (d : Finding) → i < n → getD (findings-from order set 0 n) i d ≡ finding-at order set i
-  finding-first n i d h = finding-in 0 n i d h ∙ ap (finding-at order set) (zero-add i)
+  finding-first n i d h = finding-from 0 n i d h ∙ ap (finding-at order set) (zero-add i)
 
   pub finding-is : (p : ℕ) (d : Finding) → p < length set → getD (findings-of order set) p d ≡ finding-at order set p
   unfolding findings-of

@@ -11,7 +11,7 @@ use Rattle.lent.proofs.Lent.{by-room, done, turned-tells, done-tells}
 use Rattle.sheet.specs.Constants.{most-frames}
 use Rattle.sheet.specs.declared.Refusal.the-variants.{Room}
 use Rattle.analysis.specs.Times.{number-at, place-of}
-use Rattle.analysis.specs.Findings.{past-end, found, numbers-found, times-by-number}
+use Rattle.analysis.specs.Findings.{past-end, finding-in, numbers-found, times-by-number}
 use Rattle.analysis.specs.Inside.Numbered.{Numbered}
 use Rattle.analysis.specs.Inside.Delivery.{delivering, delivered-outcome, delivered}
 use Rattle.analysis.specs.declared.Outcome.the-variants.{Refused}
@@ -22,21 +22,21 @@ use Rattle.analysis.proofs.Numbering.{place-in, number-back, number-in}
 
 -- after p places their times stand at their numbers
 abbrev pub AtNumbers : Analysis → List ℕ → List ℕ → ℕ → Type 0
-AtNumbers a = Stands 0 most-frames (a .«task_count») (λ p. found a p .number) (λ p. found a p .times)
+AtNumbers a = Stands 0 most-frames (a .«task_count») (λ p. finding-in a p .number) (λ p. finding-in a p .times)
 
 module _ (a : Analysis) (h : Numbered a) where
   abbrev n : ℕ
   n = a .«task_count»
 
-  pub number-found : (p : ℕ) → p < n → number-at (numbers-found a) p ≡ found a p .number
+  pub number-found : (p : ℕ) → p < n → number-at (numbers-found a) p ≡ finding-in a p .number
   unfolding number-at numbers-found
   number-found p l =
       List·getD-map (λ (f : Finding). f .number) (take n (a .findings)) p past-end ∙ ap (λ (f : Finding). f .number) (getD-take n (a .findings) p past-end l)
 
-  pub number-below : (p : ℕ) → p < n → found a p .number < n
+  pub number-below : (p : ℕ) → p < n → finding-in a p .number < n
   number-below p l = rw (← number-found p l) (number-in n (numbers-found a) (h .numbers) p l)
 
-  pub numbers-apart : (p q : ℕ) → p < n → q < n → found a p .number ≡ found a q .number → p ≡ q
+  pub numbers-apart : (p q : ℕ) → p < n → q < n → finding-in a p .number ≡ finding-in a q .number → p ≡ q
   unfolding number-at
   numbers-apart p q l m e = h .numbers .no-two p q l m (number-found p l ∙ e ∙ sym (number-found q m))
 
@@ -46,12 +46,12 @@ module _ (a : Analysis) (h : Numbered a) where
   pub place-found-in : (i : ℕ) → i < n → place-found i < n
   place-found-in i l = place-in n (numbers-found a) (h .numbers) i l
 
-  pub number-found-back : (i : ℕ) → i < n → found a (place-found i) .number ≡ i
+  pub number-found-back : (i : ℕ) → i < n → finding-in a (place-found i) .number ≡ i
   number-found-back i l = sym (number-found (place-found i) (place-found-in i l)) ∙ number-back n (numbers-found a) (h .numbers) i l
 
   pub by-number-length : length (times-by-number a) ≡ most-frames * n
   unfolding times-by-number
-  by-number-length = turn-length (λ i. found a (place-found i) .times) most-frames 0 n (λ i l. h .eight (place-found i) (place-found-in i (omega arith)))
+  by-number-length = turn-length (λ i. finding-in a (place-found i) .times) most-frames 0 n (λ i l. h .eight (place-found i) (place-found-in i (omega arith)))
 
   pub no-room : (room : List ℕ) → length room < most-frames * n → (Refused Room ≡ delivered-outcome a room) × (room ≡ delivered a room)
   unfolding delivered-outcome delivered delivering
@@ -59,14 +59,14 @@ module _ (a : Analysis) (h : Numbered a) where
 
   module _ (room : List ℕ) (enough : most-frames * n ≤ length room) where
     pub numbers-more : (now : List ℕ) (p : ℕ) → p < n → AtNumbers a room now p
-        → AtNumbers a room (take (most-frames * found a p .number) now ++ found a p .times ++ drop (most-frames * found a p .number + most-frames) now) (p + 1)
-    numbers-more now p l s = stands-more 0 most-frames n (λ p. found a p .number) (λ p. found a p .times) number-below numbers-apart (h .eight) room enough now p l s
+        → AtNumbers a room (take (most-frames * finding-in a p .number) now ++ finding-in a p .times ++ drop (most-frames * finding-in a p .number + most-frames) now) (p + 1)
+    numbers-more now p l s = stands-more 0 most-frames n (λ p. finding-in a p .number) (λ p. finding-in a p .times) number-below numbers-apart (h .eight) room enough now p l s
 
     pub all-numbers : (now : List ℕ) → AtNumbers a room now n → (a .outcome ≡ delivered-outcome a room) × (now ≡ delivered a room)
     unfolding delivered-outcome delivered delivering laid times-by-number
     all-numbers now s =
         let d = done-tells Room Refused (delivering a) room (done Room Refused (delivering a) room no-check (rw by-number-length enough)) in (
           d .0,
-          all-stand 0 most-frames n (λ p. found a p .number) (λ p. found a p .times) number-below numbers-apart (h .eight) room enough
+          all-stand 0 most-frames n (λ p. finding-in a p .number) (λ p. finding-in a p .times) number-below numbers-apart (h .eight) room enough
               place-found place-found-in number-found-back now s ∙ ap (λ (m : ℕ). times-by-number a ++ drop m room) (sym by-number-length) ∙ d .1,
         )

@@ -30,8 +30,8 @@ use Rattle.order.specs.Order.{priority-order, ordered-set}
 use Rattle.order.specs.Ordered.{order-of, ordered, tasks-in-order}
 use Rattle.order.specs.declared.Ordered.{Ordered}
 use Rattle.order.proofs.Laws.{ordered-admitted, ordered-tasks, ordered-length, ordered-at}
-use Rattle.analysis.specs.Times.{verdict-number, outcome-of, number-at, place-of, places-of, places-from, times-of}
-use Rattle.analysis.specs.Findings.{findings-of, finding-at, findings-from, past-end, found, numbers-found, in-turn, times-by-number}
+use Rattle.analysis.specs.Times.{verdict-number, outcome-of, number-at, place-of, slots-of, slots-from, times-of}
+use Rattle.analysis.specs.Findings.{findings-of, finding-at, findings-from, past-end, finding-in, numbers-found, in-turn, times-by-number}
 use Rattle.analysis.specs.Answers.{refused-analysis, analysis-by, set-analysis, sheet-analysis, analysing, set-analysing, set-outcome, set-left, sheet-analysing, sheet-outcome, sheet-left}
 use Rattle.analysis.specs.Inside.Steps.{HasFrames, numbers-of}
 use Rattle.analysis.specs.Inside.Numbered.{Numbered}
@@ -46,7 +46,7 @@ use Rattle.order.proofs.Order.{order-length, order-permutes}
 use Rattle.analysis.proofs.ByPlace.{length-findings, finding-is}
 use Rattle.analysis.proofs.ByNumber.{turn-same}
 use Rattle.analysis.proofs.Numbering.{place-in}
-use Rattle.analysis.proofs.TimesAt.{length-places, length-all}
+use Rattle.analysis.proofs.TimesAt.{length-slots, length-all}
 
 -- ---- the frames of a set are few
 
@@ -93,27 +93,27 @@ module _ (policy : ℕ) (tasks : List Task) where
       ap (map (λ f. f .number)) (take-at (findings-from order set 0 (length set)) _ (length tasks) (length-findings order set 0 (length set) ∙ ordered-length policy tasks))
       ∙ numbers-from 0 (length set) (omega (arith, ordered-length policy tasks, order-length policy tasks))
 
-  pub found-at : (p : ℕ) → p < length tasks → found analysis p ≡ finding-at order set p
+  pub found-at : (p : ℕ) → p < length tasks → finding-in analysis p ≡ finding-at order set p
   unfolding analysis-by
   found-at p h = finding-is order set p past-end (rw (ordered-length policy tasks) h)
 
-  times-found : (p : ℕ) → p < length tasks → found analysis p .times ≡ places-of set p
+  times-found : (p : ℕ) → p < length tasks → finding-in analysis p .times ≡ slots-of set p
   unfolding finding-at
   times-found p h = ap (λ (f : Finding). f .times) (found-at p h)
 
-  places-in-turn : (i n : ℕ) → in-turn (λ j. places-of set (place-of order j)) i n ≡ places-from order set i n
-  unfolding in-turn places-from
-  places-in-turn i zero = refl
-  places-in-turn i (suc n) = ap (λ (l : List ℕ). places-of set (place-of order i) ++ l) (places-in-turn (suc i) n)
+  slots-in-turn : (i n : ℕ) → in-turn (λ j. slots-of set (place-of order j)) i n ≡ slots-from order set i n
+  unfolding in-turn slots-from
+  slots-in-turn i zero = refl
+  slots-in-turn i (suc n) = ap (λ (l : List ℕ). slots-of set (place-of order i) ++ l) (slots-in-turn (suc i) n)
 
   -- the times by number are those of the definition
   pub by-number-is : times-by-number analysis ≡ times-of policy tasks
   unfolding times-by-number times-of analysis-by
   by-number-is =
-      turn-same (λ i. found analysis (place-of (numbers-found analysis) i) .times) (λ i. places-of set (place-of order i)) 0 (length tasks)
-      (λ i h. ap (λ (l : List ℕ). found analysis (place-of l i) .times) numbers-found-are
+      turn-same (λ i. finding-in analysis (place-of (numbers-found analysis) i) .times) (λ i. slots-of set (place-of order i)) 0 (length tasks)
+      (λ i h. ap (λ (l : List ℕ). finding-in analysis (place-of l i) .times) numbers-found-are
       ∙ times-found (place-of order i) (place-in (length tasks) order (order-permutes policy tasks) i (omega arith)))
-      ∙ places-in-turn 0 (length tasks)
+      ∙ slots-in-turn 0 (length tasks)
 
   pub analysis-numbered : length tasks ≤ most-tasks → Each FramesCounted tasks → Numbered analysis
   unfolding analysis-by findings-of
@@ -122,7 +122,7 @@ module _ (policy : ℕ) (tasks : List Task) where
         few = small;
         numbers = rw numbers-found-are (order-permutes policy tasks);
         room = simp (length-append, length-replicate) (omega (arith, length-findings order set 0 (length set), ordered-length policy tasks));
-        eight = λ p h. ap length (times-found p h) ∙ length-places set p (small-ordered policy tasks counted p);
+        eight = λ p h. ap length (times-found p h) ∙ length-slots set p (small-ordered policy tasks counted p);
       }
 
 refused-numbered : (policy : ℕ) (tasks : List Task) (r : Refusal) → Numbered (analysis-by (refused r) policy tasks)

@@ -19,7 +19,7 @@ use Rattle.order.specs.Order.{priority-order, ordered-set}
 use Rattle.order.specs.declared.Blocker.{Blocker}
 use Rattle.order.proofs.Order.{order-permutes}
 use Rattle.order.proofs.Laws.{ordered-length, ordered-at, ordered-admitted}
-use Rattle.analysis.specs.Times.{number-at, place-of, blocker-number, verdict-number, outcome-of, times-from, times-of, places-of}
+use Rattle.analysis.specs.Times.{number-at, place-of, blocker-number, verdict-number, outcome-of, times-from, times-of, slots-of}
 use Rattle.analysis.specs.Runs.{RunOf, place, TaskMisses, TaskTakesLonger, TaskTakes}
 use Rattle.analysis.specs.declared.Outcome.the-variants.{Holds, Missed, Refused}
 use Rattle.analysis.proofs.Numbering.{place-in, number-back, number-in, place-back}
@@ -134,13 +134,13 @@ module _ (policy : ℕ) (tasks : List Task) where
           go (yes h) = rw (ordered-at policy tasks p h) (eight (getD order p 0))
           go (no n) = rw (List·getD-eq-default set (record { period = 0; deadline = 0; lock = 0; frames = [] }) {n = p} (omega (arith, count))) zero-le
 
-      -- the number at place k of the eight of task i
+      -- the number in slot k of the eight of task i
       abbrev pub time : ℕ → ℕ → ℕ
       time i k = getD (times-of policy tasks) (8 * i + k) 0
 
-      time-is : (i k : ℕ) → i < length tasks → k < 8 → time i k ≡ getD (places-of set (place policy tasks i)) k 0
+      time-is : (i k : ℕ) → i < length tasks → k < 8 → time i k ≡ getD (slots-of set (place policy tasks i)) k 0
       unfolding times-of place
-      time-is i k hi hk = time-at order set small 0 (length tasks) i k hi hk ∙ ap (λ (m : ℕ). getD (places-of set (place-of order m)) k 0) (zero-add i)
+      time-is i k hi hk = time-at order set small 0 (length tasks) i k hi hk ∙ ap (λ (m : ℕ). getD (slots-of set (place-of order m)) k 0) (zero-add i)
 
       -- of a task that passes
       module _ (i : ℕ) (hi : i < length tasks) (pass : passes set (place policy tasks i) ≡ true) where
@@ -180,11 +180,11 @@ module _ (policy : ℕ) (tasks : List Task) where
             let same : R ≡ time i k = cc in
             (worst-run set (place policy tasks i) k, 1, legal, rw (← same) takes)
 
-        -- Places without a frame hold 0.
+        -- Slots without a frame hold 0.
         pub no-frame-no-time : (k : ℕ) → frame-count (task-at tasks i) ≤ k → k < 8 → time i k ≡ 0
         no-frame-no-time k h l = time-is i k hi l ∙ time-behind set (place policy tasks i) pass k (rw frames-of h) l
 
-      -- of a task that does not: all its eight places hold 0
+      -- of a task that does not: all its eight slots hold 0
       pub no-pass-no-time : (i : ℕ) → i < length tasks → passes set (place policy tasks i) ≡ false → (k : ℕ) → k < 8 → time i k ≡ 0
       no-pass-no-time i hi fails k l = time-is i k hi l ∙ time-of-missed set (place policy tasks i) fails k l
 

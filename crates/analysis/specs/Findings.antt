@@ -6,7 +6,7 @@ use lib.ListN.{length, getD, take, replicate}
 use Rattle.theory.specs.Tasks.{Task, task-at, frame-count, shortest-deadline}
 use Rattle.theory.specs.Analysis.{lower, blocking, passes}
 use Rattle.sheet.specs.Constants.{most-tasks, most-frames}
-use Rattle.analysis.specs.Times.{number-at, place-of, places-of}
+use Rattle.analysis.specs.Times.{number-at, place-of, slots-of}
 use Rattle.analysis.specs.declared.Finding.{Finding}
 use Rattle.analysis.specs.declared.Analysis.{Analysis}
 
@@ -21,7 +21,7 @@ finding-at order set p =
       «frame_count» = frame-count t;
       blocked = blocking (lower set p);
       passes = passes set p;
-      times = places-of set p;
+      times = slots-of set p;
     }
 
 -- of a place without a task
@@ -45,8 +45,8 @@ abbrev pub past-end : Finding
 past-end = record { number = 0; period = 0; deadline = 0; «frame_count» = 0; blocked = 0; passes = false; times = [] }
 
 -- the finding of a place
-abbrev pub found : Analysis → ℕ → Finding
-found a p = getD (a .findings) p past-end
+abbrev pub finding-in : Analysis → ℕ → Finding
+finding-in a p = getD (a .findings) p past-end
 
 -- the task numbers in priority order
 unfoldable pub numbers-found : Analysis → List ℕ
@@ -59,4 +59,4 @@ in-turn row i (suc n) = row i ++ in-turn row (suc i) n
 
 -- the times of all tasks in task-number order
 unfoldable pub times-by-number : Analysis → List ℕ
-times-by-number a = in-turn (λ i. found a (place-of (numbers-found a) i) .times) 0 (a .«task_count»)
+times-by-number a = in-turn (λ i. finding-in a (place-of (numbers-found a) i) .times) 0 (a .«task_count»)

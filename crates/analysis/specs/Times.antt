@@ -40,18 +40,18 @@ unfoldable pub times-from : List Task → ℕ → ℕ → ℕ → List ℕ
 times-from set p k zero = []
 times-from set p k (suc n) = Option·getD (response-of set p k) 0 ∷ times-from set p (suc k) n
 
--- eight places for a task's times, frame by frame: 0 where there is no frame, and 0 throughout for a task that does not pass
-unfoldable pub places-by : Bool → List ℕ → List ℕ
-places-by true times = times ++ replicate (most-frames - length times) 0
-places-by false times = replicate most-frames 0
+-- eight slots for a task's times, frame by frame: 0 where there is no frame, and 0 throughout for a task that does not pass
+unfoldable pub slots-by : Bool → List ℕ → List ℕ
+slots-by true times = times ++ replicate (most-frames - length times) 0
+slots-by false times = replicate most-frames 0
 
-unfoldable pub places-of : List Task → ℕ → List ℕ
-places-of set p = places-by (passes set p) (times-from set p 0 (frame-count (task-at set p)))
+unfoldable pub slots-of : List Task → ℕ → List ℕ
+slots-of set p = slots-by (passes set p) (times-from set p 0 (frame-count (task-at set p)))
 
--- the places of n tasks in task-number order, of which the first has number i
-unfoldable pub places-from : List ℕ → List Task → ℕ → ℕ → List ℕ
-places-from order set i zero = []
-places-from order set i (suc n) = places-of set (place-of order i) ++ places-from order set (suc i) n
+-- the slots of n tasks in task-number order, of which the first has number i
+unfoldable pub slots-from : List ℕ → List Task → ℕ → ℕ → List ℕ
+slots-from order set i zero = []
+slots-from order set i (suc n) = slots-of set (place-of order i) ++ slots-from order set (suc i) n
 
 unfoldable pub times-of : ℕ → List Task → List ℕ
-times-of policy tasks = places-from (priority-order policy tasks) (ordered-set policy tasks) 0 (length tasks)
+times-of policy tasks = slots-from (priority-order policy tasks) (ordered-set policy tasks) 0 (length tasks)

@@ -11,7 +11,7 @@ use crate::Outcome;
 use sheet::Refusal;
 use sheet::Sheet;
 
-// How many places a task has for its times.
+// How many slots a task has for its times.
 const WIDTH: usize = Sheet::FRAME_ROOM;
 
 // The times of one task put over those that stand from `at` on.

@@ -5,7 +5,7 @@ ghost use Rattle.theory.specs.Tasks.{start-frame, shortest-deadline};
 ghost use Rattle.sheet.specs.Tasks.{task-in};
 ghost use Rattle.order.specs.Ordered.{tasks-in-order};
 ghost use Rattle.response.specs.Response.{response-to};
-ghost use Rattle.analysis.specs.Times.{places-by};
+ghost use Rattle.analysis.specs.Times.{slots-by};
 ghost use Rattle.analysis.specs.Findings.{findings-of};
 ghost use Rattle.analysis.specs.Inside.Steps.{HasFrames, numbers-of, as-written, times-to, finding-with, finding-to};
 use crate::Finding;
@@ -18,7 +18,7 @@ use sheet::Sheet;
 use sheet::Task;
 
 // The start frame; 0 where there is none.
-fn start_of(task: Task) -> u32
+fn start_or_zero(task: Task) -> u32
     ensures { λ r. ⌜ r ≡ start-frame (task-in task) ⌝ }
 {
     match admission::start_frame(task) {
@@ -28,7 +28,7 @@ fn start_of(task: Task) -> u32
 }
 
 // A response time as it is written: 0 where there is none.
-fn written(r: Response) -> u32
+fn as_written(r: Response) -> u32
     ensures { λ t. ⌜ t ≡ as-written r ⌝ }
 {
     match r {
@@ -37,8 +37,8 @@ fn written(r: Response) -> u32
     }
 }
 
-// The response times of a task, in eight places; those of its largest frames are known.
-fn times_of(
+// The response times of a task, in eight slots; those of its largest frames are known.
+fn times_to(
     above: Above,
     blocked: u32,
     task: Task,
@@ -46,7 +46,7 @@ fn times_of(
     known: u32,
 ) -> [u32; Sheet::FRAME_ROOM]
     requires { ⌜ known ≡ as-written (response-to above blocked largest (shortest-deadline (task-in task))) ⌝ }
-    ensures { λ r. ⌜ r ≡ places-by true (times-to above blocked task) ⌝ }
+    ensures { λ r. ⌜ r ≡ slots-by true (times-to above blocked task) ⌝ }
 {
     let frames = task.frames;
     let count = sheet::frames_in(task.frame_count, frames);
@@ -57,7 +57,7 @@ fn times_of(
             times[k] = known;
         } else {
             let d = sheet::deadline_of(task, k);
-            let t = written(response::respond(above, blocked, c, d));
+            let t = as_written(response::respond(above, blocked, c, d));
             times[k] = t;
         }
     }
@@ -98,7 +98,7 @@ fn finding_of(above: Above, number: u32, blocked: u32, task: Task) -> Finding
             blocked,
             task,
             true,
-            times_of(above, blocked, task, largest, t),
+            times_to(above, blocked, task, largest, t),
         ),
         Response::Never => finding(number, blocked, task, false, [0; Sheet::FRAME_ROOM]),
     }
@@ -126,7 +126,7 @@ pub fn findings_of(o: Ordered) -> [Finding; Sheet::TASK_ROOM]
         let f = finding_of(above, numbers[p], order::blocking(o, p as u32), task);
         findings[p] = f;
         let h = Higher {
-            start: start_of(task),
+            start: start_or_zero(task),
             task,
         };
         above.tasks[p] = h;

@@ -84,10 +84,10 @@ module _ (s : List ℕ) (first span lead w past : ℕ) (e : 8 * span ≡ lead + 
           ∙ sym (ap (with-field lead f) own-digits ∙ put-digits lead w past (value (bits-of chunk)) v h)
 
 -- the same where the bytes are found from the field's position and width
-abbrev pub PlaceOf : ℕ → ℕ → ℕ → ℕ → ℕ → Type 0
-PlaceOf at w first end past = (first ≡ at / 8) × (end ≡ (at + w + 7) / 8) × (past ≡ 8 * ((at + w + 7) / 8) - (at + w))
+abbrev pub TouchedBy : ℕ → ℕ → ℕ → ℕ → ℕ → Type 0
+TouchedBy at w first end past = (first ≡ at / 8) × (end ≡ (at + w + 7) / 8) × (past ≡ 8 * ((at + w + 7) / 8) - (at + w))
 
-module _ (n at w first end past : ℕ) (h : Inside n at w) (p : PlaceOf at w first end past) where
+module _ (n at w first end past : ℕ) (h : Inside n at w) (p : TouchedBy at w first end past) where
   whole : 8 * (end - first) ≡ at % 8 + (w + past)
   whole = omega arith
 
@@ -106,7 +106,7 @@ module _ (n at w first end past : ℕ) (h : Inside n at w) (p : PlaceOf at w fir
   span-small : end - first ≤ 5
   span-small = omega arith
 
-module _ (s : List ℕ) (at w first end past : ℕ) (h : Inside (length s) at w) (p : PlaceOf at w first end past) where
+module _ (s : List ℕ) (at w first end past : ℕ) (h : Inside (length s) at w) (p : TouchedBy at w first end past) where
   abbrev part : List ℕ
   part = take (end - first) (drop first s)
 

@@ -94,7 +94,7 @@ take-digits a w p n =
     rw (digits-split a (w + p) n, drop-at (digits a (n / 2 ^ (w + p))) (digits (w + p) n) a (length-digits a _), digits-split w p n)
     (take-at (digits w (n / 2 ^ p)) (digits p n) w (length-digits w _))
 
--- the number with v in the field's place
+-- the number with v in the field
 abbrev pub replaced : ℕ → ℕ → ℕ → ℕ → ℕ
 replaced w p n v = n / 2 ^ (w + p) * 2 ^ (w + p) + (v * 2 ^ p + n % 2 ^ p)
 

@@ -45,7 +45,7 @@ fn number(bytes: &[u8]) -> u64
 }
 
 // A few bytes hold the number, high byte first.
-fn put_number(bytes: &mut [u8], n: u64)
+fn hold_number(bytes: &mut [u8], n: u64)
     requires { ⌜ length (now bytes) ≤ 5 ⌝ }
     ensures { λ _. ⌜ now (bytes .exit) ≡ bytes-of (length (now (bytes .entry))) (digits (8 * length (now (bytes .entry))) n) ⌝ }
 {
@@ -56,19 +56,19 @@ fn put_number(bytes: &mut [u8], n: u64)
 }
 
 // The bytes that a field touches, from `first` up to `end`, and how many bits of the last one are past it.
-struct Place {
+struct Touched {
     first: usize,
     end: usize,
     past: usize,
 }
 
-fn place_of(at: usize, width: usize) -> Place
+fn touched_by(at: usize, width: usize) -> Touched
     requires { ⌜ (1 ≤ width) × (width ≤ 32) ⌝ }
     ensures { λ r. ⌜ (r .first ≡ at / 8) × (r .end ≡ (at + width + 7) / 8) × (r .past ≡ 8 * ((at + width + 7) / 8) - (at + width)) ⌝ }
 {
     let lead = at % 8;
     let span = (lead + width + 7) / 8;
-    Place {
+    Touched {
         first: at / 8,
         end: at / 8 + span,
         past: 8 * span - lead - width,
@@ -83,8 +83,8 @@ fn low_bits(n: u64, width: usize) -> u64
     n & ((1 << width) - 1)
 }
 
-// A number with `v` in place of the `width` bits above its last `past`.
-fn with_bits(n: u64, width: usize, past: usize, v: u64) -> u64
+// A number with `v` instead of the `width` bits above its last `past`.
+fn with_value(n: u64, width: usize, past: usize, v: u64) -> u64
     requires { ⌜ (n < 2 ^ 40) × (width ≤ 32) × (past < 8) × (v < 2 ^ width) ⌝ }
     ensures { λ r. ⌜ r ≡ n / 2 ^ (width + past) * 2 ^ (width + past) + (v * 2 ^ past + n % 2 ^ past) ⌝ }
 {
@@ -99,7 +99,7 @@ pub fn take_field(bytes: &[u8], at: usize, width: usize) -> Taken
     if !lies_within(bytes.len(), at, width) {
         return Taken::Outside;
     }
-    let p = place_of(at, width);
+    let p = touched_by(at, width);
     let first = p.first;
     let end = p.end;
     let past = p.past;
@@ -118,11 +118,11 @@ pub fn put_field(bytes: &mut [u8], at: usize, width: usize, value: u32) -> bool
     if v >> width != 0 {
         return false;
     }
-    let p = place_of(at, width);
+    let p = touched_by(at, width);
     let first = p.first;
     let end = p.end;
     let past = p.past;
     let run = number(&bytes[first..end]);
-    put_number(&mut bytes[first..end], with_bits(run, width, past, v));
+    hold_number(&mut bytes[first..end], with_value(run, width, past, v));
     true
 }

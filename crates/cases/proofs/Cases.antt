@@ -14,12 +14,12 @@ use Rattle.lent.specs.Checks.{first-refusal}
 use Rattle.sheet.specs.Admission.{decided, known-policy, all, is-time, in-range, well-formed, lock-fits, monotonic, policy-check, task-count-check, frame-count-check, task-checks, frame-count-checks, list-checks, admission}
 use Rattle.sheet.specs.Writing.{header-bits, task-bits, tasks-bits, sheet-of}
 use Rattle.order.specs.Order.{key, is-higher, placed, order-from, priority-order, ordered-set}
-use Rattle.analysis.specs.Times.{number-at, place-of, blocker-number, verdict-number, outcome-of, times-from, places-by, places-of}
+use Rattle.analysis.specs.Times.{number-at, place-of, blocker-number, verdict-number, outcome-of, times-from, slots-by, slots-of}
 use Rattle.analysis.specs.Findings.{finding-at, no-finding, findings-from, findings-of, numbers-found, in-turn, times-by-number}
 use Rattle.analysis.specs.Answers.{refused-analysis, analysis-by, set-analysis}
-use Rattle.cases.specs.Table.{in-eights, said, given, Agrees, table}
+use Rattle.cases.specs.Table.{in-eights, given-by, given, Agrees, table}
 
 -- The definitions give every case of the table its answers.
 pub cases-a-to-m : Agrees table
-unfolding table Agrees given said in-eights times-by-number in-turn numbers-found findings-of findings-from finding-at no-finding set-analysis analysis-by refused-analysis outcome-of number-at place-of blocker-number verdict-number times-from places-by places-of key is-higher placed order-from priority-order ordered-set admission decided first-refusal known-policy all is-time in-range well-formed lock-fits monotonic policy-check task-count-check frame-count-check task-checks frame-count-checks list-checks task-in record-of records-of set-with blank-record lower largest-lock blocking blocker higher releases higher-work demand response demand-of response-of passes verdict task-at frame-count frame work largest largest-frame qualifies start-frame deadline-of shortest-deadline first every found body sheet-of sealed-record seal whole-bytes header-bits tasks-bits task-bits packed bytes-of digits value
+unfolding table Agrees given given-by in-eights times-by-number in-turn numbers-found findings-of findings-from finding-at no-finding set-analysis analysis-by refused-analysis outcome-of number-at place-of blocker-number verdict-number times-from slots-by slots-of key is-higher placed order-from priority-order ordered-set admission decided first-refusal known-policy all is-time in-range well-formed lock-fits monotonic policy-check task-count-check frame-count-check task-checks frame-count-checks list-checks task-in record-of records-of set-with blank-record lower largest-lock blocking blocker higher releases higher-work demand response demand-of response-of passes verdict task-at frame-count frame work largest largest-frame qualifies start-frame deadline-of shortest-deadline first every found body sheet-of sealed-record seal whole-bytes header-bits tasks-bits task-bits packed bytes-of digits value
 cases-a-to-m = refl

@@ -17,21 +17,21 @@ use Rattle.analysis.specs.declared.Analysis.{Analysis}
 use Rattle.analysis.specs.declared.Outcome.{Outcome}
 use Rattle.analysis.specs.declared.Outcome.the-variants.{Holds, Missed, Refused}
 
--- what a case says of its set
-pub data Answer : Type 0 where
-  -- the outcome, and eight places for the times of each task's frames
-  analysed : Outcome → List ℕ → Answer
+-- what a case expects of its set
+pub data Expected : Type 0 where
+  -- the outcome, and eight slots for the times of each task's frames
+  analysed : Outcome → List ℕ → Expected
   -- the start frame of task 0
-  start : ℕ → Answer
+  start : ℕ → Expected
   -- the order of priorities
-  order : List ℕ → Answer
+  order : List ℕ → Expected
   -- the bytes before the check word
-  bytes : List ℕ → Answer
+  bytes : List ℕ → Expected
 
 pub record Case : Type 0 where
   pub policy : ℕ
   pub tasks : List Task
-  pub answers : List Answer
+  pub expects : List Expected
 
 -- D = T and Q = 0
 abbrev plain : ℕ → List ℕ → Task
@@ -45,32 +45,32 @@ with-deadline T D frames = record { period = T; deadline = D; lock = 0; frames =
 abbrev with-lock : ℕ → ℕ → List ℕ → Task
 with-lock T Q frames = record { period = T; deadline = T; lock = Q; frames = frames }
 
-abbrev case : ℕ → List Task → List Answer → Case
-case policy tasks answers = record { policy = policy; tasks = tasks; answers = answers }
+abbrev case : ℕ → List Task → List Expected → Case
+case policy tasks expects = record { policy = policy; tasks = tasks; expects = expects }
 
--- eight places for each task's times
+-- eight slots for each task's times
 unfoldable pub in-eights : List (List ℕ) → List ℕ
 in-eights [] = []
 in-eights (ts ∷ rows) = ts ++ replicate (most-frames - length ts) 0 ++ in-eights rows
 
 -- an outcome with each task's times; none for a task that does not pass
-abbrev times : Outcome → List (List ℕ) → Answer
+abbrev times : Outcome → List (List ℕ) → Expected
 times outcome rows = analysed outcome (in-eights rows)
 
--- what an analysis says of its set
-unfoldable pub said : Analysis → Answer
-said a = analysed (a .outcome) (times-by-number a)
+-- what an analysis gives
+unfoldable pub given-by : Analysis → Expected
+given-by a = analysed (a .outcome) (times-by-number a)
 
--- what the definitions give in the place of an answer
-unfoldable pub given : Case → Answer → Answer
-given c (analysed outcome places) = said (set-analysis (set-with (c .policy) (c .tasks)))
+-- what the definitions give in the place of what is expected
+unfoldable pub given : Case → Expected → Expected
+given c (analysed outcome slots) = given-by (set-analysis (set-with (c .policy) (c .tasks)))
 given c (start frame) = start (start-frame (task-at (c .tasks) 0))
 given c (order numbers) = order (priority-order (c .policy) (c .tasks))
 given c (bytes front) = bytes (body (sheet-of (c .policy) (c .tasks)))
 
 -- the definitions give every case its answers
 unfoldable pub Agrees : List Case → Type 0
-Agrees cases = map (λ c. map (given c) (c .answers)) cases ≡ map (λ c. c .answers) cases
+Agrees cases = map (λ c. map (given c) (c .expects)) cases ≡ map (λ c. c .expects) cases
 
 unfoldable pub table : List Case
 table =

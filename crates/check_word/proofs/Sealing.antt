@@ -57,7 +57,7 @@ seal-body s h e =
     (value-digits 16 cw ∙ mod-eq-of-lt (check-word-lt (body s)) ∙ sym (p .1))))
     ∙ take-append-drop (length s - 2) s
 
--- ---- a string sealed in its place
+-- ---- a string sealed where it stands
 
 module _ (s : List ℕ) (h : 2 ≤ length s) where
   with-seal-is : with-seal s ≡ seal (body s)

@@ -10,8 +10,8 @@ ghost use Rattle.check_word.specs.Inside.Register.{shifted, fed};
 // The check word's size in bytes.
 pub const SIZE: usize = 2;
 
-// One step. The bit that goes out at the top tells whether the polynomial, x^12 + x^5 + 1 behind its leading one, is subtracted.
-fn step(c: u16) -> u16
+// The register moves up by one bit. The bit that goes out at the top tells whether the polynomial, x^12 + x^5 + 1 behind its leading one, is subtracted.
+fn shift(c: u16) -> u16
     ensures { λ r. ⌜ r ≡ shifted 1 c ⌝ }
 {
     if 0x8000 <= c {
@@ -28,7 +28,7 @@ fn feed(c: u16, b: u8) -> u16
     let mut r = c ^ ((b as u16) << 8);
     let mut k: usize = 0;
     while k < 8 {
-        r = step(r);
+        r = shift(r);
         k += 1;
     }
     r

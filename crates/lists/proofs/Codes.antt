@@ -15,7 +15,7 @@ use Rattle.sheet.specs.Constants.{most-tasks, version-width, policy-width, task
 use Rattle.sheet.specs.Tasks.{task-in, records-of, blank-record}
 use Rattle.sheet.specs.Refusals.{number-of, task-of-refusal}
 use Rattle.records.specs.Rows.{unpacked}
-use Rattle.sheet.specs.Layout.{header-in, tasks-in, records-in, record-width}
+use Rattle.sheet.specs.Layout.{header-in, tasks-in, behind-header, record-width}
 use Rattle.lent.specs.Checks.{Check}
 use Rattle.lent.proofs.Checks.{Each, each-append}
 use Rattle.lent.proofs.Laid.{laid-to-length, laid-most}
@@ -178,8 +178,8 @@ module _ (s : List ℕ) (list : List Record) where
   sheet-names : Names 32 (sheet-checks s)
   unfolding sheet-checks policy-check task-count-check
   sheet-names =
-      let laid : List (Check Refusal) = layout-checks 0 n (records-in bits) in
-      let judged : List (Check Refusal) = task-checks 0 (tasks-in n (records-in bits)) in (
+      let laid : List (Check Refusal) = layout-checks 0 n (behind-header bits) in
+      let judged : List (Check Refusal) = task-checks 0 (tasks-in n (behind-header bits)) in (
         lit< tt,
         (
           lit< tt,
@@ -191,8 +191,8 @@ module _ (s : List ℕ) (list : List Record) where
                 lit< tt,
                 (
                   lit< tt,
-                  each-append below laid judged (layout-names 32 0 n (records-in bits) (lit< tt) (omega (arith, count-small)))
-                      (task-names 32 0 (tasks-in n (records-in bits)) (omega (arith, count-small, length-tasks-in n (records-in bits)))),
+                  each-append below laid judged (layout-names 32 0 n (behind-header bits) (lit< tt) (omega (arith, count-small)))
+                      (task-names 32 0 (tasks-in n (behind-header bits)) (omega (arith, count-small, length-tasks-in n (behind-header bits)))),
                 ),
               ),
             ),

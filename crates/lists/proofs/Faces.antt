@@ -78,7 +78,7 @@ too-long policy n records h = go (known-policy policy) refl
 
 -- ---- what is answered and left of a set by its count and its records is answered and left of the list
 
-module _ {A X : Type 0} (policy : ℕ) (refused : Refusal → X) (writes : List Task → List A) (says : List Task → X) (places : List A) where
+module _ {A X : Type 0} (policy : ℕ) (refused : Refusal → X) (writes : List Task → List A) (says : List Task → X) (memory : List A) where
   abbrev pub call : ℕ → List Task → Call Refusal A X
   call n records = record { checks = list-checks policy n records; writes = writes records; says = says records }
 
@@ -86,12 +86,12 @@ module _ {A X : Type 0} (policy : ℕ) (refused : Refusal → X) (writes : List 
   gathered list = call (gathered-of policy list .«task_count») (records-of (gathered-of policy list))
 
   abbrev Alike : Call Refusal A X → Call Refusal A X → Type 0
-  Alike c d = (answered Room refused c places ≡ answered Room refused d places) × (left-after Room c places ≡ left-after Room d places)
+  Alike c d = (answered Room refused c memory ≡ answered Room refused d memory) × (left-after Room c memory ≡ left-after Room d memory)
 
   both-refuse : (c d : Call Refusal A X) (r : Refusal) → first-refusal (c .checks) ≡ some r → first-refusal (d .checks) ≡ some r → Alike c d
   both-refuse c d r e f =
-      let a : TurnedAway Room refused c places r = by-checks Room refused c places r e in
-      let b : TurnedAway Room refused d places r = by-checks Room refused d places r f in
+      let a : TurnedAway Room refused c memory r = by-checks Room refused c memory r e in
+      let b : TurnedAway Room refused d memory r = by-checks Room refused d memory r f in
       (a .answer ∙ sym (b .answer), a .unchanged ∙ sym (b .unchanged))
 
   pub as-gathered : (list : List Task) → Alike (gathered list) (call (length list) list)
@@ -99,8 +99,8 @@ module _ {A X : Type 0} (policy : ℕ) (refused : Refusal → X) (writes : List 
     where
       go : Dec (length list ≤ most-tasks) → Alike (gathered list) (call (length list) list)
       go (yes few) = (
-        ap₂ (λ (n : ℕ) (records : List Task). answered Room refused (call n records) places) (count-gathered policy list few) (records-gathered policy list few),
-        ap₂ (λ (n : ℕ) (records : List Task). left-after Room (call n records) places) (count-gathered policy list few) (records-gathered policy list few),
+        ap₂ (λ (n : ℕ) (records : List Task). answered Room refused (call n records) memory) (count-gathered policy list few) (records-gathered policy list few),
+        ap₂ (λ (n : ℕ) (records : List Task). left-after Room (call n records) memory) (count-gathered policy list few) (records-gathered policy list few),
       )
       go (no many) = both-refuse (gathered list) (call (length list) list) _ (too-long policy _ _ (count-over policy list (omega arith))) (too-long policy _ _ (omega arith))
 

@@ -1,5 +1,5 @@
--- Functions that hand a gathered list and a lent place of numbers on to a function on a set, and give back what it answers: one walk for all of them.
--- All that it knows of `gathered` and of that function is that each meets its contract. The place goes to it at its own lifetime, share and name, and is given up for good (`gave-slice`).
+-- Functions that hand a gathered list and a lent memory of numbers on to a function on a set, and give back what it answers: one walk for all of them.
+-- All that it knows of `gathered` and of that function is that each meets its contract. The memory goes to it at its own lifetime, share and name, and is given up for good (`gave-slice`).
 use mathlib.Core.Path.{_≡_, refl, _∙_}
 use Prim.Native.Nat.{ℕ, _<_, _^_}
 use mathlib.Core.List.{List, [], _∷_}
@@ -42,7 +42,7 @@ use Rattle.lists.proofs.Walk.{calls-told}
 
 -- E are the numbers, ε their type in MIR; R is what is answered
 module _ (E : RattleType) (ε : Ty) (R : Value) where
-  -- of policy, list and place; and of the set and the place
+  -- of policy, list and memory; and of the set and the memory
   abbrev pub taken : Ended
   taken = record {
     signature = record {
@@ -91,8 +91,8 @@ module _ (E : RattleType) (ε : Ty) (R : Value) where
 
   -- what is said of the list, and what of the set
   module _ (said : ℕ → List Task → List (E .Denot) → R .row .Denot) (left : ℕ → List Task → List (E .Denot) → List (E .Denot)) (said-of : TaskSet → List (E .Denot) → R .row .Denot) (left-of : TaskSet → List (E .Denot) → List (E .Denot))
-      (said-is : (policy : ℕ) (list : List Task) (place : List (E .Denot)) → said-of (gathered-of policy list) place ≡ said policy list place)
-      (left-is : (policy : ℕ) (list : List Task) (place : List (E .Denot)) → left-of (gathered-of policy list) place ≡ left policy list place) where
+      (said-is : (policy : ℕ) (list : List Task) (memory : List (E .Denot)) → said-of (gathered-of policy list) memory ≡ said policy list memory)
+      (left-is : (policy : ℕ) (list : List Task) (memory : List (E .Denot)) → left-of (gathered-of policy list) memory ≡ left policy list memory) where
     abbrev pub taken-clauses : {M : Type 1} (𝓤 : URA M) → Clauses 𝓤 taken
     taken-clauses 𝓤 κs a = record { ghost = Unit {0}; requires = λ _. emp 𝓤; ensures = λ _ r e. fact 𝓤 ((r ≡ said (a .0) (now (a .1 .0)) (now (a .1 .1 .0))) × (now (e .1 .1 .0) ≡ left (a .0) (now (a .1 .0)) (now (a .1 .1 .0)))) }
 
@@ -147,28 +147,28 @@ module _ (E : RattleType) (ε : Ty) (R : Value) where
           qed W ((‵ (flft κ q) ⊛ (‵ (flft κ′ q′) ⊛ ‵ ftrue)) ∷ ‵ (owns (u32 ∷ ShrSlice (named 0) κ T.the-row ∷ MutSlice (named 1) κ′ E ∷ []) a vals) ∷ []) ∵ enter ! (𝓣 .C) (𝓣 .Λ) (function #gathered #on-set) (vint w32 policy ∷ s ∷ s′ ∷ []) _ $
           alloc1 ! (λ l₀. alloc1 ! (λ l₁. alloc1 ! (λ l₂. alloc1 ! (λ l₃. alloc1 ! (λ l₄. alloc1 ! (λ l₅. alloc1 ! (λ l₆. alloc0 ! $ params1 ! $
           pass1 ! (init ! 10 refl (tt, record { fits = policy-fits })) $ pass1 ! (init ! 8 refl (tt, (tt, (record { fits = room .0 }, tt)))) $ pass1 ! (init ! 6 refl (tt, (tt, (record { fits = room′ .0 }, tt)))) $ pass0 ! $
-          -- [_6; …; room for _0; …; the tokens; what policy, list and place own]
+          -- [_6; …; room for _0; …; the tokens; what policy, list and memory own]
           move ! (15 ∷ []) $ fsplit ! $ move ! (1 ∷ []) $ fsplit ! $ move ! (1 ∷ []) $ fsplit ! $
-          -- [what place owns; true; what list owns; what policy owns; _6; …; the tokens]
+          -- [what memory owns; true; what list owns; what policy owns; _6; …; the tokens]
           move ! (2 ∷ 1 ∷ []) $ fjoin ! $ move ! (2 ∷ 0 ∷ []) $ fjoin ! $ move ! (16 ∷ []) $ split ! $ nothing ! $ move ! (1 ∷ 0 ∷ []) $ join ! $
           use1 W (raw (alive 𝓤 H A (gathers .signature) (κ, tt) (q, tt))) (id⊢ 𝓤 _) $ move ! (0 ∷ 2 ∷ []) $
-          -- [the list's token; what policy and list own; the place's token; what place owns; _6; …]
+          -- [the list's token; what policy and list own; the memory's token; what memory owns; _6; …]
           calls-told ! (fmOf 𝓤 H (W .laws) 𝓣) gathers (gathers-clauses 𝓤) known-gathered ((κ, tt), (q, tt), tt, (policy, (x, tt)), (vint w32 policy ∷ [], (s ∷ [], tt))) tt (id⊢ 𝓤 _)
           (λ r ws. r ≡ d) (λ r ws. id⊢ 𝓤 _) d (λ r ws e. e) set-val set-tells (and-then ! (load ! (from ! (stop !)) (look ! 13 refl)) (and-then ! (load ! (from ! (stop !)) (look ! 11 refl)) (no-more !))) (λ _ _ is-d.
           land ! (from ! (stop !)) (init ! 8 refl (set-typed 𝓤 H A W d is-d .0)) $
           assigns ! (addr ! (from ! (fld ! refl (hop ! (look-in ! 10 (sub ! 0 refl (whole !))) (stop !))))) (from ! (stop !)) (init ! 6 refl (tt, tt)) $
           assigns ! (agg ! (and-then ! (load ! (from ! (stop !)) (look ! 6 refl)) (and-then ! (load ! (from ! (fld ! refl (stop !))) (look-in ! 10 (sub ! 1 refl (whole !)))) (no-more !)))) (from ! (stop !)) (init ! 4 refl (tt, (tt, (record { fits = room′ .0 }, tt)))) $
-          -- [the list's token; true; the place's token; what place owns; _6; …]
+          -- [the list's token; true; the memory's token; what memory owns; _6; …]
           use1 W (‵ (flft κ q) ⊛ ‵ ftrue) (id⊢ 𝓤 _) $ move ! (3 ∷ []) $ nothing ! $ move ! (1 ∷ 0 ∷ []) $ fjoin ! $ owned ! S.the-row (Is S.the-row) (set-makes 𝓤 H A) d (set-val d ∷ []) is-d $ fjoin ! $
           move ! (3 ∷ 0 ∷ []) $ use1 W (raw (alive 𝓤 H A (handed .signature) (κ′, tt) (q′, tt))) (id⊢ 𝓤 _) $
-          -- [the place's token; what the set and place own; the list's token; true; _6; …]
+          -- [the memory's token; what the set and memory own; the list's token; true; _6; …]
           calls-told ! (fmOf 𝓤 H (W .laws) 𝓣) handed (handed-clauses 𝓤) known-set ((κ′, tt), (q′, tt), tt, (d, (y, tt)), (set-val d ∷ [], (s′ ∷ [], tt))) tt (id⊢ 𝓤 _)
           (λ r ws. (r ≡ w) × (ws .1 .0 ≡ left-of d (y .now))) (λ r ws. id⊢ 𝓤 _) w (λ r ws e. e .0) (R .val) (R .tells)
           (and-then ! (load ! (from ! (stop !)) (look ! 7 refl)) (and-then ! (load ! (from ! (stop !)) (look ! 3 refl)) (no-more !))) (λ ws e is.
           land ! (from ! (stop !)) (init ! 16 refl (R .typed 𝓤 H A W w is)) $
-          -- [the place's token; the last values; the list's token; true; _6; …]
+          -- [the memory's token; the last values; the list's token; true; _6; …]
           use1 W (‵ (flft κ′ q′) ⊛ ‵ ftrue) (id⊢ 𝓤 _) $ move ! (1 ∷ []) $ fsplit ! $ drop ! $ fsplit ! $ fsplit ! $ move ! (1 ∷ []) $ feqL ! (λ l.
-          -- [the place's last content; true; the place's token; the list's token; true; _6; …]
+          -- [the memory's last content; true; the memory's token; the list's token; true; _6; …]
           returns ! (look ! 17 refl) $ forget ! 5 refl $ forget ! 7 refl $ forget ! 9 refl $ forget ! 11 refl $ forget ! 13 refl $ forget ! 15 refl $ forget ! 17 refl $
           move ! (17 ∷ 18 ∷ []) $ free1 ! $ move ! (15 ∷ 16 ∷ []) $ free1 ! $ move ! (13 ∷ 14 ∷ []) $ free1 ! $ move ! (11 ∷ 12 ∷ []) $ free1 ! $ move ! (9 ∷ 10 ∷ []) $ free1 ! $ move ! (7 ∷ 8 ∷ []) $ free1 ! $ move ! (5 ∷ 6 ∷ []) $ free1 ! $ free0 ! $
           keep ! (3 ∷ 2 ∷ 0 ∷ []) $ by ! (exits (ws .1 .0) (e .1) l is)))))))))))

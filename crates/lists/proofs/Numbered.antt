@@ -1,4 +1,4 @@
--- The C entries of a policy, a list and a lent place of numbers: the function that they call, and the one number of what it answers. One walk for all of them.
+-- The C entries of a policy, a list and a lent memory of numbers: the function that they call, and the one number of what it answers. One walk for all of them.
 -- All that it knows of the two functions is that each meets its contract.
 use mathlib.Core.Path.{_≡_, refl}
 use Prim.Native.Nat.{ℕ, _<_, _^_}
@@ -73,7 +73,7 @@ module _ (E : RattleType) (ε : Ty) (R : Value) where
 
   -- what is said of the list, and its number
   module _ (said : ℕ → List Task → List (E .Denot) → R .row .Denot) (left : ℕ → List Task → List (E .Denot) → List (E .Denot)) (code : R .row .Denot → ℕ)
-      (small : (policy : ℕ) (list : List Task) (place : List (E .Denot)) → code (said policy list place) < 2 ^ 32) where
+      (small : (policy : ℕ) (list : List Task) (memory : List (E .Denot)) → code (said policy list memory) < 2 ^ 32) where
     abbrev pub entry-clauses : {M : Type 1} (𝓤 : URA M) → Clauses 𝓤 entry
     entry-clauses 𝓤 κs a = record { ghost = Unit {0}; requires = λ _. emp 𝓤; ensures = λ _ r e. fact 𝓤 ((r ≡ code (said (a .0) (now (a .1 .0)) (now (a .1 .1 .0)))) × (now (e .1 .1 .0) ≡ left (a .0) (now (a .1 .0)) (now (a .1 .1 .0)))) }
 
@@ -128,7 +128,7 @@ module _ (E : RattleType) (ε : Ty) (R : Value) where
           pass1 ! (init ! 10 refl (tt, record { fits = policy-fits })) $ pass1 ! (init ! 8 refl (tt, (tt, (record { fits = room .0 }, tt)))) $ pass1 ! (init ! 6 refl (tt, (tt, (record { fits = room′ .0 }, tt)))) $ pass0 ! $
           assigns ! (addr ! (from ! (fld ! refl (hop ! (look-in ! 6 (sub ! 0 refl (whole !))) (stop !))))) (from ! (stop !)) (init ! 2 refl (tt, tt)) $
           assigns ! (agg ! (and-then ! (load ! (from ! (stop !)) (look ! 2 refl)) (and-then ! (load ! (from ! (fld ! refl (stop !))) (look-in ! 6 (sub ! 1 refl (whole !)))) (no-more !)))) (from ! (stop !)) (init ! 0 refl (tt, (tt, (record { fits = room′ .0 }, tt)))) $
-          -- [_6; …; room for _0; …; the tokens; what policy, list and place own]
+          -- [_6; …; room for _0; …; the tokens; what policy, list and memory own]
           move ! (14 ∷ 15 ∷ []) $ use1 W (raw (alive 𝓤 H A (taken E ε R .signature) (κ, (κ′, tt)) (q, (q′, tt)))) (id⊢ 𝓤 _) $
           calls-told ! (fmOf 𝓤 H (W .laws) 𝓣) (taken E ε R) (answers-clauses 𝓤) known-answers ((κ, (κ′, tt)), (q, (q′, tt)), tt, a, vals) tt (id⊢ 𝓤 _)
           (λ z ws. (z ≡ w) × (ws .1 .1 .0 ≡ left policy (x .now) (y .now))) (λ z ws. id⊢ 𝓤 _) w (λ z ws e. e .0) (R .val) (R .tells)
@@ -139,7 +139,7 @@ module _ (E : RattleType) (ε : Ty) (R : Value) where
           land ! (from ! (stop !)) (init ! 14 refl (tt, record { fits = fits })) $
           -- [the tokens; the last values; _6; …]
           use1 W (‵ (flft κ q) ⊛ (‵ (flft κ′ q′) ⊛ ‵ ftrue)) (id⊢ 𝓤 _) $ move ! (1 ∷ []) $ fsplit ! $ drop ! $ fsplit ! $ drop ! $ fsplit ! $ fsplit ! $ move ! (1 ∷ []) $ feqL ! (λ l.
-          -- [the place's last content; true; the tokens; _6; …]
+          -- [the memory's last content; true; the tokens; _6; …]
           returns ! (look ! 15 refl) $ forget ! 3 refl $ forget ! 5 refl $ forget ! 7 refl $ forget ! 9 refl $ forget ! 11 refl $ forget ! 13 refl $ forget ! 15 refl $
           move ! (15 ∷ 16 ∷ []) $ free1 ! $ move ! (13 ∷ 14 ∷ []) $ free1 ! $ move ! (11 ∷ 12 ∷ []) $ free1 ! $ move ! (9 ∷ 10 ∷ []) $ free1 ! $ move ! (7 ∷ 8 ∷ []) $ free1 ! $ move ! (5 ∷ 6 ∷ []) $ free1 ! $ move ! (3 ∷ 4 ∷ []) $ free1 ! $ free0 ! $
           keep ! (2 ∷ 0 ∷ []) $ by ! (exits (ws .1 .1 .0) (e .1) l)))))))))))

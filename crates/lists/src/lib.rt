@@ -116,7 +116,7 @@ pub enum ListRead {
     TurnedAway(Refusal),
 }
 
-fn set_in(reading: Reading) -> TaskSet
+fn set_read(reading: Reading) -> TaskSet
     ensures { λ r. ⌜ r ≡ reading .set ⌝ }
 {
     let set = reading.set;
@@ -124,7 +124,7 @@ fn set_in(reading: Reading) -> TaskSet
 }
 
 // The answer for a list of n records.
-fn answered(reading: Reading, n: usize) -> ListRead
+fn read_answer(reading: Reading, n: usize) -> ListRead
     ensures { λ r. ⌜ r ≡ read-answer reading n ⌝ }
 {
     let answer = reading.answer;
@@ -145,8 +145,8 @@ pub fn read_list(sheet: &[u8], list: &mut [Task]) -> ListRead
     ensures { λ r. ⌜ (r ≡ list-read (now (sheet .entry)) (now (list .entry))) × (now (list .exit) ≡ list-filled (now (sheet .entry)) (now (list .entry))) ⌝ }
 {
     let reading = reader::read_sheet(sheet);
-    scattered(set_in(reading), list);
-    answered(reading, list.len())
+    scattered(set_read(reading), list);
+    read_answer(reading, list.len())
 }
 
 // A lent list written to a sheet.

@@ -14,7 +14,7 @@ use Rattle.theory.proofs.Blocking.{IsBlocker, blocker-when, no-blocker-when, la
 use Rattle.sheet.specs.Constants.{most-tasks}
 use Rattle.sheet.specs.Tasks.{task-in}
 use Rattle.sheet.specs.declared.Task.{Task as Record}
-use Rattle.sheet.proofs.Records.{taken-places}
+use Rattle.sheet.proofs.Records.{taken-slots}
 use Rattle.order.specs.Inside.Below.{FirstLargest}
 use Rattle.order.specs.Ordered.{tasks-in-order, blocking-at, blocker-at}
 use Rattle.order.specs.declared.Ordered.{Ordered}
@@ -107,7 +107,7 @@ module _ (tasks : List Record) (n : ℕ) where
 pub in-use : (o : Ordered) (n : ℕ) → (n ≡ min (o .count) most-tasks) × (length (o .tasks) ≡ most-tasks)
     → tasks-in-order o ≡ map task-in (take n (o .tasks))
 unfolding tasks-in-order
-in-use o n used = rw (used .0) (ap (map task-in) (sym (taken-places (o .tasks) (o .count) most-tasks (used .1))))
+in-use o n used = rw (used .0) (ap (map task-in) (sym (taken-slots (o .tasks) (o .count) most-tasks (used .1))))
 
 module _ (o : Ordered) (n p : ℕ) (used : (n ≡ min (o .count) most-tasks) × (length (o .tasks) ≡ most-tasks)) where
   ts : List Task

@@ -1,4 +1,4 @@
--- A row of places that is filled from the front, one by one.
+-- A row of slots that is filled from the front, one by one.
 use mathlib.Core.List.{List, _++_}
 use mathlib.Core.Path.{_≡_, sym, ap}
 use Prim.Native.Nat.{ℕ, suc, _+_, _-_, _≤_, _<_}

@@ -4,11 +4,11 @@ ghost use lib.Dec.{leb};
 ghost use lib.ListN.{length};
 ghost use Rattle.bits.specs.Faces.{taken, fits, stored};
 ghost use Rattle.check_word.specs.Division.{word-size, check-word, sealed, with-seal};
-ghost use Rattle.outside.specs.Numbers.{number-taken};
+ghost use Rattle.outside.specs.Numbers.{number-seen};
 use bits::Taken;
 
-fn number(t: Taken) -> u64
-    ensures { λ r. ⌜ r ≡ number-taken t ⌝ }
+fn number_seen(t: Taken) -> u64
+    ensures { λ r. ⌜ r ≡ number-seen t ⌝ }
 {
     match t {
         Taken::Value(v) => v as u64,
@@ -18,9 +18,9 @@ fn number(t: Taken) -> u64
 
 #[no_mangle]
 pub extern "C" fn burrbeech_take_field(bytes: &[u8], at: usize, width: usize) -> u64
-    ensures { λ r. ⌜ r ≡ number-taken (taken (now (bytes .entry)) at width) ⌝ }
+    ensures { λ r. ⌜ r ≡ number-seen (taken (now (bytes .entry)) at width) ⌝ }
 {
-    number(bits::take_field(bytes, at, width))
+    number_seen(bits::take_field(bytes, at, width))
 }
 
 #[no_mangle]

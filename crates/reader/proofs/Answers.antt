@@ -14,7 +14,7 @@ use Rattle.bits.proofs.Laws.{length-bits}
 use Rattle.lent.specs.Checks.{Check, _⇒_}
 use Rattle.lent.specs.Lent.{laid}
 use Rattle.records.specs.Rows.{unpacked, total}
-use Rattle.records.specs.Faces.{last-position, ends, row-has-places, taken-row}
+use Rattle.records.specs.Faces.{last-position, ends, row-has-slots, taken-row}
 use Rattle.records.specs.declared.Row.{Row}
 use Rattle.records.specs.declared.Row.the-variants.{EndsAt, Untouched}
 use Rattle.records.proofs.Looking.{row-found, row-missing, row-numbers}
@@ -23,7 +23,7 @@ use Rattle.records.proofs.Packing.{length-unpacked, total-replicate}
 use Rattle.sheet.specs.Constants.{the-version, time-width, most-tasks, most-frames, greatest-size}
 use Rattle.sheet.specs.Fields.{header-widths, fixed-widths, frame-widths}
 use Rattle.sheet.specs.Tasks.{record-of}
-use Rattle.sheet.specs.Layout.{header-in, records-in, frame-count-in, record-width, task-at-start}
+use Rattle.sheet.specs.Layout.{header-in, behind-header, frame-count-in, record-width, task-at-start}
 use Rattle.sheet.specs.Admission.{decided, known-policy, miscounted, policy-check, task-count-check, frame-count-check}
 use Rattle.sheet.specs.Reading.{layout-checks}
 use Rattle.sheet.proofs.Checks.{applies, passed-over, no-check}
@@ -33,7 +33,7 @@ use Rattle.sheet.specs.declared.Answer.{Answer}
 use Rattle.sheet.specs.declared.Answer.the-variants.{Admitted, Refused}
 use Rattle.sheet.specs.declared.Refusal.{Refusal}
 use Rattle.sheet.specs.declared.Refusal.the-variants.{Version, Policy, BitSet, TaskCount, FrameCount, Records}
-use Rattle.reader.specs.Inside.Parts.{turned-away, reading-of, times-from, record-checks, nothing-found, found-by, found-at, records-reading, body-checks, set-in, body-reading}
+use Rattle.reader.specs.Inside.Parts.{turned-away, reading-of, frame-times-at, record-checks, nothing-found, found-by, found-at, records-reading, body-checks, set-in, body-reading}
 use Rattle.reader.specs.declared.Found.{Found}
 use Rattle.reader.specs.declared.Times.{Times}
 
@@ -79,7 +79,7 @@ module _ (i at : ℕ) (bs : List Bool) where
 
 -- ---- one record, by the rows that were taken
 
--- the places of the fixed part, and of the header
+-- the slots of the fixed part, and of the header
 abbrev four : List ℕ
 four = replicate 4 0
 
@@ -88,19 +88,19 @@ near s h = omega arith
 
 -- the first n of eight widths
 pub times-read : (s : List ℕ) (at n : ℕ) (ws : List ℕ) (r : Row) (ms : List ℕ) → n ≤ most-frames → ws ≡ frame-widths most-frames
-    → r ≡ ends (row-has-places (length s) at (take n ws) most-frames) at (take n ws) → ms ≡ taken-row s at (take n ws) (replicate most-frames 0)
-    → _≡_ {A = Times} (record { end = r; times = ms }) (times-from s at n)
-unfolding times-from
+    → r ≡ ends (row-has-slots (length s) at (take n ws) most-frames) at (take n ws) → ms ≡ taken-row s at (take n ws) (replicate most-frames 0)
+    → _≡_ {A = Times} (record { end = r; times = ms }) (frame-times-at s at n)
+unfolding frame-times-at
 times-read s at n ws r ms h ew er em =
     let widths : take n ws ≡ frame-widths n = ap (take n) ew ∙ take-replicate n most-frames time-width h in
-    let ends-at = er ∙ ap (λ (us : List ℕ). ends (row-has-places (length s) at us most-frames) at us) widths in
+    let ends-at = er ∙ ap (λ (us : List ℕ). ends (row-has-slots (length s) at us most-frames) at us) widths in
     let taken = em ∙ ap (λ (us : List ℕ). taken-row s at us (replicate most-frames 0)) widths in
     λ k. record { end = ends-at k; times = taken k }
 
 module _ (s : List ℕ) (small : length s ≤ greatest-size) (i at : ℕ) (ws : List ℕ) (ew : ws ≡ fixed-widths)
-    (r : Row) (er : r ≡ ends (row-has-places (length s) at ws (length four)) at ws) where
-  fixed-row : r ≡ ends (row-has-places (length s) at fixed-widths (length four)) at fixed-widths
-  fixed-row = er ∙ ap (λ (us : List ℕ). ends (row-has-places (length s) at us (length four)) at us) ew
+    (r : Row) (er : r ≡ ends (row-has-slots (length s) at ws (length four)) at ws) where
+  fixed-row : r ≡ ends (row-has-slots (length s) at fixed-widths (length four)) at fixed-widths
+  fixed-row = er ∙ ap (λ (us : List ℕ). ends (row-has-slots (length s) at us (length four)) at us) ew
 
   pub fixed-missing : r ≡ Untouched → nothing-found Records ≡ found-at i at (drop at (bits-of s))
   fixed-missing u =
@@ -131,7 +131,7 @@ module _ (s : List ℕ) (small : length s ≤ greatest-size) (i at : ℕ) (ws : 
       in-bits : miscounted (frame-count-in (drop at (bits-of s))) most-frames ≡ false
       in-bits = ap (λ (n : ℕ). miscounted n most-frames) (sym count-is) ∙ f
 
-      module _ (t : Times) (et : t ≡ times-from s behind (getD numbers 3 0)) where
+      module _ (t : Times) (et : t ≡ frame-times-at s behind (getD numbers 3 0)) where
         n : ℕ
         n = frame-count-in (drop at (bits-of s))
 
@@ -141,12 +141,12 @@ module _ (s : List ℕ) (small : length s ≤ greatest-size) (i at : ℕ) (ws : 
         start : ℕ
         start = at + total fixed-widths
 
-        times-is : t ≡ times-from s start n
+        times-is : t ≡ frame-times-at s start n
         unfolding n start
-        times-is = et ∙ ap₂ (λ (k m : ℕ). times-from s k m) (fixed-there .1) count-is
+        times-is = et ∙ ap₂ (λ (k m : ℕ). frame-times-at s k m) (fixed-there .1) count-is
 
-        end-is : t .end ≡ ends (row-has-places (length s) start (frame-widths n) (length eight)) start (frame-widths n)
-        unfolding times-from eight
+        end-is : t .end ≡ ends (row-has-slots (length s) start (frame-widths n) (length eight)) start (frame-widths n)
+        unfolding frame-times-at eight
         end-is = ap (λ (x : Times). x .end) times-is
 
         enough : length (frame-widths n) ≤ length eight
@@ -185,9 +185,9 @@ module _ (s : List ℕ) (small : length s ≤ greatest-size) (i at : ℕ) (ws : 
           unfolding frames
           frames-count = length-unpacked (frame-widths n) _ ∙ length-replicate n time-width
 
-          places-are : t .times ≡ frames ++ replicate (most-frames - length frames) 0
-          unfolding times-from laid eight frames
-          places-are =
+          slots-are : t .times ≡ frames ++ replicate (most-frames - length frames) 0
+          unfolding frame-times-at laid eight frames
+          slots-are =
               ap (λ (x : Times). x .times) times-is
               ∙ row-numbers s start (frame-widths n) eight (frames-lawful n) (near s small) enough some-frames (frames-there .0)
               ∙ ap (λ (bs : List Bool). laid (unpacked (frame-widths n) bs) eight) behind-fixed
@@ -215,7 +215,7 @@ module _ (s : List ℕ) (small : length s ≤ greatest-size) (i at : ℕ) (ws : 
                   deadline = getD (numbers-are k) 1 0;
                   lock = getD (numbers-are k) 2 0;
                   «frame_count» = count k;
-                  frames = places-are k;
+                  frames = slots-are k;
                 };
               })
               ∙ all-there i at (drop at (bits-of s)) (fixed-there .0) in-bits whole
@@ -224,7 +224,7 @@ module _ (s : List ℕ) (small : length s ≤ greatest-size) (i at : ℕ) (ws : 
 
 module _ (bs : List Bool) where
   from-records : List (Check Refusal)
-  from-records = layout-checks 0 (header-in bs .task-count) (records-in bs)
+  from-records = layout-checks 0 (header-in bs .task-count) (behind-header bs)
 
   from-task-count : List (Check Refusal)
   from-task-count = task-count-check (header-in bs .task-count) ∷ from-records
@@ -241,9 +241,9 @@ module _ (bs : List Bool) where
 
 -- by the row that was taken
 module _ (s : List ℕ) (small : length s ≤ greatest-size) (long : total header-widths ≤ 8 * length s) (ws : List ℕ) (ew : ws ≡ header-widths)
-    (r : Row) (er : r ≡ ends (row-has-places (length s) 0 ws (length four)) 0 ws) where
-  header-row : r ≡ ends (row-has-places (length s) 0 header-widths (length four)) 0 header-widths
-  header-row = er ∙ ap (λ (us : List ℕ). ends (row-has-places (length s) 0 us (length four)) 0 us) ew
+    (r : Row) (er : r ≡ ends (row-has-slots (length s) 0 ws (length four)) 0 ws) where
+  header-row : r ≡ ends (row-has-slots (length s) 0 header-widths (length four)) 0 header-widths
+  header-row = er ∙ ap (λ (us : List ℕ). ends (row-has-slots (length s) 0 us (length four)) 0 us) ew
 
   -- the header is there
   pub header-missing : r ≡ Untouched → ⊥
@@ -314,9 +314,9 @@ module _ (s : List ℕ) (small : length s ≤ greatest-size) (long : total heade
 
           pub header-right : miscounted (getD numbers 2 0) most-tasks ≡ false
               → records-reading (getD numbers 1 0) (getD numbers 2 0) (drop start (bits-of s)) ≡ body-reading (bits-of s)
-          unfolding from-task-count from-records task-count-check records-reading body-reading set-in records-in
+          unfolding from-task-count from-records task-count-check records-reading body-reading set-in behind-header
           header-right f =
               ap (λ (k : ℕ). records-reading (getD numbers 1 0) (getD numbers 2 0) (drop k (bits-of s))) (header-there .1)
-              ∙ ap₂ (λ (p n : ℕ). records-reading p n (records-in (bits-of s))) policy-is task-count-is
+              ∙ ap₂ (λ (p n : ℕ). records-reading p n (behind-header (bits-of s))) policy-is task-count-is
               ∙ ap (λ (a : Answer). reading-of a (set-in (bits-of s)))
               (sym (to-task-count ∙ passed-over _ TaskCount _ (ap (λ (n : ℕ). miscounted n most-tasks) (sym task-count-is) ∙ f)))

@@ -1,5 +1,5 @@
--- From the small to the whole: places of an array, the fill, each part's returns, the walk over the records, the sheet.
-pub mod Places
+-- From the small to the whole: slots of an array, the fill, each part's returns, the walk over the records, the sheet.
+pub mod Slots
 pub mod Fill
 pub mod Answers
 pub mod Walk

@@ -23,7 +23,7 @@ use Rattle.sheet.specs.declared.TaskSet.{TaskSet}
 use Rattle.sheet.specs.declared.Task.{Task as Record}
 use Rattle.reader.specs.Inside.Parts.{turned-away, reading-of, record-checks, nothing-found, found-by, found-at, records-reading}
 use Rattle.reader.specs.declared.Found.{Found}
-use Rattle.reader.proofs.Places.{put-next, map-snoc}
+use Rattle.reader.proofs.Slots.{put-next, map-snoc}
 
 -- ---- n records, the next one behind them
 
@@ -75,7 +75,7 @@ found-answer (Refused why) at bs = refl
 -- the records from a position on, after i of n
 pub record Walked (s : List ℕ) (start n i at : ℕ) (tasks : List Record) : Type 0 where
   pub turn : i ≤ n
-  pub place : at ≡ start + records-width i (drop start (bits-of s))
+  pub position : at ≡ start + records-width i (drop start (bits-of s))
   pub held : tasks ≡ recorded i (drop start (bits-of s))
   pub same : decided (layout-checks i (n - i) (drop at (bits-of s))) ≡ decided (layout-checks 0 n (drop start (bits-of s)))
 
@@ -83,14 +83,14 @@ pub none-walked : (s : List ℕ) (start n : ℕ) → Walked s start n 0 start (r
 unfolding records-width recorded tasks-in
 none-walked s start n =
     let e : n - 0 ≡ n = omega arith in
-    record { turn = omega arith; place = omega arith; held = refl; same = ap (λ (m : ℕ). decided (layout-checks 0 m (drop start (bits-of s)))) e }
+    record { turn = omega arith; position = omega arith; held = refl; same = ap (λ (m : ℕ). decided (layout-checks 0 m (drop start (bits-of s)))) e }
 
 module _ (s : List ℕ) (start n i at : ℕ) (tasks : List Record) (w : Walked s start n i at tasks) where
   abbrev all : List Bool
   all = drop start (bits-of s)
 
   here : drop (records-width i all) all ≡ drop at (bits-of s)
-  here = drop-drop (records-width i all) start (bits-of s) ∙ ap (λ (k : ℕ). drop k (bits-of s)) (sym (w .place))
+  here = drop-drop (records-width i all) start (bits-of s) ∙ ap (λ (k : ℕ). drop k (bits-of s)) (sym (w .position))
 
   module _ (h : i < n) (f : Found) (e : f ≡ found-at i at (drop at (bits-of s))) where
     checks : List (Check Refusal)
@@ -133,7 +133,7 @@ module _ (s : List ℕ) (start n i at : ℕ) (tasks : List Record) (w : Walked s
       walk-more l =
           record {
             turn = omega arith;
-            place = rw (add-one i) (omega (arith, next-is, records-width-more i all, ap record-width here, w .place));
+            position = rw (add-one i) (omega (arith, next-is, records-width-more i all, ap record-width here, w .position));
             held = rw (w .held, task-is, ← here, add-one i) (recorded-more i all (omega arith));
             same =
                 rw (add-one i, next-is, ← drop-drop (record-width (drop at (bits-of s))) at (bits-of s))

@@ -10,7 +10,7 @@ use Rattle.bits.specs.Packed.{bits-of}
 use Rattle.check_word.specs.Division.{body, sealed}
 use Rattle.sheet.specs.Constants.{least-size, greatest-size}
 use Rattle.sheet.specs.Tasks.{task-in, records-of}
-use Rattle.sheet.specs.Layout.{header-in, records-in, tasks-in}
+use Rattle.sheet.specs.Layout.{header-in, behind-header, tasks-in}
 use Rattle.sheet.specs.Admission.{decided, task-checks}
 use Rattle.sheet.specs.Reading.{sheet-checks, policy-of, tasks-of, reading-by, reading}
 use Rattle.sheet.proofs.Checks.{applies, passed-over, and-then, decided-append}
@@ -78,14 +78,14 @@ module _ (s : List ℕ) where
         on-body = decided (body-checks (bits-of (body s)))
 
         on-tasks : Answer
-        on-tasks = decided (task-checks 0 (tasks-in (header-in (bits-of (body s)) .task-count) (records-in (bits-of (body s)))))
+        on-tasks = decided (task-checks 0 (tasks-in (header-in (bits-of (body s)) .task-count) (behind-header (bits-of (body s)))))
 
         both : decided (sheet-checks s) ≡ and-then on-body on-tasks
         unfolding sheet-checks body-checks on-body on-tasks
         both =
             passed-over _ Length _ size-right
             ∙ passed-over _ CheckWord _ (ap not e)
-            ∙ decided-append (body-checks (bits-of (body s))) (task-checks 0 (tasks-in (header-in (bits-of (body s)) .task-count) (records-in (bits-of (body s)))))
+            ∙ decided-append (body-checks (bits-of (body s))) (task-checks 0 (tasks-in (header-in (bits-of (body s)) .task-count) (behind-header (bits-of (body s)))))
 
         module _ (a : Answer) (ea : r .answer ≡ a) where
           body-answer : on-body ≡ a

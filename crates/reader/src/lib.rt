@@ -8,7 +8,7 @@ ghost use Rattle.sheet.specs.Constants.{most-tasks, most-frames, greatest-size}
 ghost use Rattle.sheet.specs.Fields.{header-widths};
 ghost use Rattle.sheet.specs.Admission.{decided};
 ghost use Rattle.sheet.specs.Reading.{layout-checks, reading};
-ghost use Rattle.reader.specs.Inside.Parts.{turned-away, times-from, found-at, nothing-found, records-reading, body-reading, judged};
+ghost use Rattle.reader.specs.Inside.Parts.{turned-away, frame-times-at, found-at, nothing-found, records-reading, body-reading, judged};
 use records::Rest;
 use records::Row;
 use sheet::Answer;
@@ -44,7 +44,7 @@ fn not_found(why: Refusal) -> Found
     }
 }
 
-// The frame times of a record, and where they end; 0 in the places past them.
+// The frame times of a record, and where they end; 0 in the slots past them.
 struct Times {
     end: Row,
     times: [u32; Sheet::FRAME_ROOM],
@@ -53,12 +53,12 @@ struct Times {
 // The frame times that stand one after another from `at` on.
 fn read_times(body: &[u8], at: usize, count: u32) -> Times
     requires { ⌜ count ≤ most-frames ⌝ }
-    ensures { λ r. ⌜ r ≡ times-from (now (body .entry)) at count ⌝ }
+    ensures { λ r. ⌜ r ≡ frame-times-at (now (body .entry)) at count ⌝ }
 {
     let mut times = [0u32; Sheet::FRAME_ROOM];
-    let places = Sheet::frame_widths();
+    let per_frame = Sheet::frame_widths();
     let in_use = count as usize;
-    let end = records::take_row(body, at, &places[..in_use], &mut times);
+    let end = records::take_row(body, at, &per_frame[..in_use], &mut times);
     Times { end, times }
 }
 

@@ -11,7 +11,7 @@ use Rattle.bits.specs.Packed.{Bytes, bits-of, bytes-of, with-field}
 use Rattle.bits.proofs.Laws.{bytes-bits}
 use Rattle.lent.specs.Lent.{laid}
 use Rattle.records.specs.Rows.{packed, unpacked, total}
-use Rattle.records.specs.Faces.{end-of, lawful, row-there, each-fits, ends, row-fits, with-bits, stored-row, row-has-places, taken-row}
+use Rattle.records.specs.Faces.{end-of, lawful, row-there, each-fits, ends, row-fits, with-bits, stored-row, row-has-slots, taken-row}
 use Rattle.records.specs.Inside.Steps.{Placed}
 use Rattle.records.specs.declared.Row.{Row}
 use Rattle.records.specs.declared.Row.the-variants.{EndsAt, Untouched}
@@ -74,43 +74,43 @@ module _ (s : List ℕ) (at : ℕ) (ws vs : List ℕ) where
 
 -- ---- a row that is taken
 
-module _ (n at : ℕ) (ws : List ℕ) (places : ℕ) where
-  pub take-there : row-there n at ws ≡ false → row-has-places n at ws places ≡ false
-  unfolding row-has-places
-  take-there e = ap (λ (b : Bool). b && leb (length ws) places) e
+module _ (n at : ℕ) (ws : List ℕ) (slots : ℕ) where
+  pub take-there : row-there n at ws ≡ false → row-has-slots n at ws slots ≡ false
+  unfolding row-has-slots
+  take-there e = ap (λ (b : Bool). b && leb (length ws) slots) e
 
-  pub take-places : places < length ws → row-has-places n at ws places ≡ false
-  unfolding row-has-places
-  take-places h = ap (λ (b : Bool). row-there n at ws && b) (lt-leb (length ws) places h) ∙ and-false (row-there n at ws)
+  pub take-slots : slots < length ws → row-has-slots n at ws slots ≡ false
+  unfolding row-has-slots
+  take-slots h = ap (λ (b : Bool). row-there n at ws && b) (lt-leb (length ws) slots h) ∙ and-false (row-there n at ws)
 
-  pub take-both : row-there n at ws ≡ true → length ws ≤ places → row-has-places n at ws places ≡ true
-  unfolding row-has-places
-  take-both e h = ap₂ _&&_ e (le-leb (length ws) places h)
+  pub take-both : row-there n at ws ≡ true → length ws ≤ slots → row-has-slots n at ws slots ≡ true
+  unfolding row-has-slots
+  take-both e h = ap₂ _&&_ e (le-leb (length ws) slots h)
 
 -- what a row that can be taken has
-pub record Takes (n at : ℕ) (ws : List ℕ) (places : ℕ) : Type 0 where
+pub record Takes (n at : ℕ) (ws : List ℕ) (slots : ℕ) : Type 0 where
   pub widths : lawful ws ≡ true
   pub room : at + total ws ≤ 8 * n
   pub short : at + total ws ≤ end-of n
-  pub enough : length ws ≤ places
+  pub enough : length ws ≤ slots
 
-pub takes : (n at : ℕ) (ws : List ℕ) (places : ℕ) → row-has-places n at ws places ≡ true → Takes n at ws places
-unfolding row-has-places
-takes n at ws places e =
-    let both = and-eq-true-iff (row-there n at ws) (leb (length ws) places) .0 e in
+pub takes : (n at : ℕ) (ws : List ℕ) (slots : ℕ) → row-has-slots n at ws slots ≡ true → Takes n at ws slots
+unfolding row-has-slots
+takes n at ws slots e =
+    let both = and-eq-true-iff (row-there n at ws) (leb (length ws) slots) .0 e in
     let there = there-has n at ws (both .0) in
-    record { widths = there .0; room = omega arith; short = there .1; enough = leb-true (length ws) places (both .1) }
+    record { widths = there .0; room = omega arith; short = there .1; enough = leb-true (length ws) slots (both .1) }
 
 module _ (s : List ℕ) (at : ℕ) (ws ns : List ℕ) where
   abbrev IsTaken : Row → List ℕ → Type 0
-  IsTaken r ms = (r ≡ ends (row-has-places (length s) at ws (length ns)) at ws) × (ms ≡ taken-row s at ws ns)
+  IsTaken r ms = (r ≡ ends (row-has-slots (length s) at ws (length ns)) at ws) × (ms ≡ taken-row s at ws ns)
 
-  pub not-taken : row-has-places (length s) at ws (length ns) ≡ false → IsTaken Untouched ns
+  pub not-taken : row-has-slots (length s) at ws (length ns) ≡ false → IsTaken Untouched ns
   unfolding taken-row
   not-taken e =
       (ap (λ (b : Bool). ends b at ws) (sym e), ap (λ (b : Bool). cond b (laid (unpacked ws (drop at (bits-of s))) ns) ns) (sym e))
 
-  pub was-taken : (next : ℕ) (ms : List ℕ) → row-has-places (length s) at ws (length ns) ≡ true → next ≡ at + total ws → ms ≡ laid (unpacked ws (drop at (bits-of s))) ns
+  pub was-taken : (next : ℕ) (ms : List ℕ) → row-has-slots (length s) at ws (length ns) ≡ true → next ≡ at + total ws → ms ≡ laid (unpacked ws (drop at (bits-of s))) ns
       → IsTaken (EndsAt next) ms
   unfolding taken-row
   was-taken next ms e f g =

@@ -18,7 +18,7 @@ use Rattle.bits.proofs.RoundTrip.{bits-stored}
 use Rattle.bits.proofs.Within.{within-narrow}
 use Rattle.check_word.specs.Division.{word-size, seal, body, with-seal}
 use Rattle.check_word.proofs.Sealing.{length-seal}
-use Rattle.records.specs.Sealed.{bytes-for, whole-bytes, sealed-record, record-size, some-set, rest-of}
+use Rattle.records.specs.Sealed.{bytes-for, whole-bytes, sealed-record, sealed-size, some-set, rest-of}
 use Rattle.records.specs.Faces.{closed}
 use Rattle.records.specs.declared.Rest.the-variants.{Zeros, ByteLeft, BitSet}
 
@@ -52,7 +52,7 @@ whole-of b bits n h l e =
     ∙ ap (bytes-of (length b)) (sym e)
     ∙ bytes-bits b h
 
-pub length-record : (bits : List Bool) → length (sealed-record bits) ≡ record-size (length bits)
+pub length-record : (bits : List Bool) → length (sealed-record bits) ≡ sealed-size (length bits)
 unfolding sealed-record
 length-record bits = length-seal (whole-bytes bits) ∙ ap (λ (n : ℕ). n + word-size) (length-whole bits)
 
@@ -135,13 +135,13 @@ cleared s n (suc w) h l =
     ∙ ap (λ (f : List Bool). with-field n f (bits-of s)) (zero-digits (suc w))
 
 module _ (s : List ℕ) (n : ℕ) where
-  pub not-closed : (length s ≡ record-size n → ⊥) → (false ≡ eqb (length s) (record-size n)) × (s ≡ closed s n)
+  pub not-closed : (length s ≡ sealed-size n → ⊥) → (false ≡ eqb (length s) (sealed-size n)) × (s ≡ closed s n)
   unfolding closed
   not-closed f =
-      let e = sym (ne-eqb (length s) (record-size n) f) in
+      let e = sym (ne-eqb (length s) (sealed-size n) f) in
       (e, ap (λ (b : Bool). cond b (sealed-record (take n (bits-of s))) s) e)
 
-  module _ (e : length s ≡ record-size n) (t : List ℕ) (et : t ≡ stored s n ((8 - n % 8) % 8) 0) (bytes : Bytes t) (long : length t ≡ length s) where
+  module _ (e : length s ≡ sealed-size n) (t : List ℕ) (et : t ≡ stored s n ((8 - n % 8) % 8) 0) (bytes : Bytes t) (long : length t ≡ length s) where
     fill : ℕ
     fill = (8 - n % 8) % 8
 
@@ -166,10 +166,10 @@ module _ (s : List ℕ) (n : ℕ) where
         ap (λ (k : ℕ). take k t) short
         ∙ sym (whole-of (take (bytes-for n) t) front fill (bytes-take (bytes-for n) t bytes) (omega arith) (sym (take-bits (bytes-for n) t) ∙ front-bits))
 
-    pub was-closed : (u : List ℕ) → u ≡ with-seal t → (true ≡ eqb (length s) (record-size n)) × (u ≡ closed s n)
+    pub was-closed : (u : List ℕ) → u ≡ with-seal t → (true ≡ eqb (length s) (sealed-size n)) × (u ≡ closed s n)
     unfolding with-seal closed sealed-record front
     was-closed u eu =
-        let yes-size = sym (eq-eqb (length s) (record-size n) e) in (
+        let yes-size = sym (eq-eqb (length s) (sealed-size n) e) in (
           yes-size,
           eu
               ∙ ap (λ (b : Bool). cond b (seal (body t)) t) (le-leb 2 (length t) (omega arith))

@@ -11,24 +11,24 @@ use lib.ListN.{length, drop}
 use Rattle.bits.specs.Packed.{bits-of}
 use Rattle.lent.specs.Lent.{laid}
 use Rattle.records.specs.Rows.{unpacked, total}
-use Rattle.records.specs.Faces.{last-position, end-of, lawful, row-there, ends, row-has-places, taken-row}
+use Rattle.records.specs.Faces.{last-position, end-of, lawful, row-there, ends, row-has-slots, taken-row}
 use Rattle.records.specs.declared.Row.{Row}
 use Rattle.records.specs.declared.Row.the-variants.{EndsAt, Untouched}
 use Rattle.records.proofs.Filling.{length-rest}
 
-module _ (s : List ℕ) (at : ℕ) (ws ns : List ℕ) (widths : lawful ws ≡ true) (near : 8 * length s ≤ last-position) (places : length ws ≤ length ns) (some : 1 ≤ total ws) where
+module _ (s : List ℕ) (at : ℕ) (ws ns : List ℕ) (widths : lawful ws ≡ true) (near : 8 * length s ≤ last-position) (slots : length ws ≤ length ns) (some : 1 ≤ total ws) where
   abbrev bits-left : List Bool
   bits-left = drop at (bits-of s)
 
-  there : total ws ≤ length bits-left → row-has-places (length s) at ws (length ns) ≡ true
-  unfolding row-has-places row-there
+  there : total ws ≤ length bits-left → row-has-slots (length s) at ws (length ns) ≡ true
+  unfolding row-has-slots row-there
   there h =
       ap₂ _&&_
       (ap₂ _&&_ widths (le-leb (at + total ws) (end-of (length s)) (omega (arith, length-rest s at))))
-      (le-leb (length ws) (length ns) places)
+      (le-leb (length ws) (length ns) slots)
 
-  missing : length bits-left < total ws → row-has-places (length s) at ws (length ns) ≡ false
-  unfolding row-has-places row-there
+  missing : length bits-left < total ws → row-has-slots (length s) at ws (length ns) ≡ false
+  unfolding row-has-slots row-there
   missing h =
       ap₂ (λ (a b : Bool). (a && b) && leb (length ws) (length ns)) widths (lt-leb (at + total ws) (end-of (length s)) (omega (arith, length-rest s at)))
 
@@ -36,7 +36,7 @@ module _ (s : List ℕ) (at : ℕ) (ws ns : List ℕ) (widths : lawful ws ≡ tr
   unfolding taken-row
   row-numbers h = ap (λ (b : Bool). cond b (laid (unpacked ws bits-left) ns) ns) (there h)
 
-  module _ (r : Row) (e : r ≡ ends (row-has-places (length s) at ws (length ns)) at ws) where
+  module _ (r : Row) (e : r ≡ ends (row-has-slots (length s) at ws (length ns)) at ws) where
     pub row-found : (next : ℕ) → r ≡ EndsAt next → (total ws ≤ length bits-left) × (next ≡ at + total ws)
     row-found next f = go (decLe (total ws) (length bits-left))
       where

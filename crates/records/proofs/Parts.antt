@@ -1,4 +1,4 @@
--- Parts of lists: equal elements, and what is laid over as many places.
+-- Parts of lists: equal elements, and what is laid over a memory as long.
 use mathlib.Core.List.{List, _∷_, append-nil}
 use mathlib.Core.Path.{_≡_, refl, ap, _∙_}
 use Prim.Native.Nat.{ℕ, zero, suc, _-_, _≤_}
@@ -6,10 +6,10 @@ use native.Mathlib.Omega.{arith}
 use lib.ListN.{length, take, drop, replicate, drop-of-length-le}
 use Rattle.lent.specs.Lent.{laid}
 
--- as many as there are places
-pub laid-whole : {A : Type 0} (written places : List A) → length places ≡ length written → laid written places ≡ written
+-- as many as the memory holds
+pub laid-whole : {A : Type 0} (written memory : List A) → length memory ≡ length written → laid written memory ≡ written
 unfolding laid
-laid-whole written places e = rw (drop-of-length-le places {i = length written} (omega arith)) (append-nil written)
+laid-whole written memory e = rw (drop-of-length-le memory {i = length written} (omega arith)) (append-nil written)
 
 pub drop-replicate {ℓ} : {A : Type ℓ} (n m : ℕ) (a : A) → drop n (replicate m a) ≡ replicate (m - n) a
 drop-replicate zero m a = let e : m ≡ m - 0 = omega arith in ap (λ (k : ℕ). replicate k a) e

@@ -48,7 +48,7 @@ placed-behind {s} {t} {u} {at} {next} {end} f g h p q =
       behind = rw (length-append f g) (omega (arith, p .behind, q .behind));
     }
 
--- the first i fields of a row stand at their place
+-- the first i fields of a row stand where they belong
 pub record RowTo (s : List ℕ) (at : ℕ) (ws vs : List ℕ) (i : ℕ) (t : List ℕ) (next : ℕ) : Type 0 where
   pub put : Placed s at (packed (take i ws) (take i vs)) t next
   pub in-row : i ≤ length ws

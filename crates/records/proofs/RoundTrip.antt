@@ -17,8 +17,8 @@ use Rattle.check_word.specs.Division.{body}
 use Rattle.check_word.proofs.Sealing.{body-seal}
 use Rattle.lent.specs.Lent.{laid}
 use Rattle.records.specs.Rows.{packed, unpacked, total}
-use Rattle.records.specs.Sealed.{sealed-record, record-size, whole-bytes, rest-of}
-use Rattle.records.specs.Faces.{row-fits, with-bits, stored-row, row-has-places, taken-row, closed}
+use Rattle.records.specs.Sealed.{sealed-record, sealed-size, whole-bytes, rest-of}
+use Rattle.records.specs.Faces.{row-fits, with-bits, stored-row, row-has-slots, taken-row, closed}
 use Rattle.records.specs.declared.Rest.the-variants.{Zeros}
 use Rattle.records.proofs.Packing.{length-packed, unpacked-packed}
 use Rattle.records.proofs.Rows.{as-many, fit-of}
@@ -98,7 +98,7 @@ module _ (s : List ℕ) (at : ℕ) (ws vs : List ℕ) (e : row-fits (length s) a
   unfolding taken-row
   put-then-take ns h =
       ap (λ (b : Bool). cond b (laid (unpacked ws (drop at (bits-of (stored-row s at ws vs)))) ns) ns)
-      (ap (λ (n : ℕ). row-has-places n at ws (length ns)) length-stored ∙ take-both (length s) at ws (length ns) (row-put (length s) at ws vs e) h)
+      (ap (λ (n : ℕ). row-has-slots n at ws (length ns)) length-stored ∙ take-both (length s) at ws (length ns) (row-put (length s) at ws vs e) h)
       ∙ ap (λ (ms : List ℕ). laid ms ns)
       (ap (unpacked ws) (ap (λ (t : List ℕ). drop at (bits-of t)) stored-is ∙ behind-with s at (packed ws vs) row-room)
       ∙ unpacked-packed (fit-of ws vs (row .fits)) _)
@@ -106,10 +106,10 @@ module _ (s : List ℕ) (at : ℕ) (ws vs : List ℕ) (e : row-fits (length s) a
 -- ---- records
 
 -- a string of a record's size that starts with some bits is closed to their record
-pub closed-is : (s : List ℕ) (n : ℕ) (bits : List Bool) → take n (bits-of s) ≡ bits → length s ≡ record-size n → closed s n ≡ sealed-record bits
+pub closed-is : (s : List ℕ) (n : ℕ) (bits : List Bool) → take n (bits-of s) ≡ bits → length s ≡ sealed-size n → closed s n ≡ sealed-record bits
 unfolding closed
 closed-is s n bits e h =
-    ap (λ (b : Bool). cond b (sealed-record (take n (bits-of s))) s) (eq-eqb (length s) (record-size n) h) ∙ ap sealed-record e
+    ap (λ (b : Bool). cond b (sealed-record (take n (bits-of s))) s) (eq-eqb (length s) (sealed-size n) h) ∙ ap sealed-record e
 
 -- a record's bytes before the check word are its bits and the fill, and nothing else is left behind its bits
 pub record-bits : (bits : List Bool) → bits-of (body (sealed-record bits)) ≡ bits ++ replicate (fill-of bits) false

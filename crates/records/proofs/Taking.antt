@@ -23,15 +23,15 @@ use Rattle.records.proofs.Rows.{lawful-at}
 pub number-is : (s : List ℕ) (at w : ℕ) → Inside (length s) at w → number-taken (taken s at w) ≡ value (field at w (bits-of s))
 number-is s at w h = ap number-taken (taken-value s at w h)
 
--- the first i numbers of a row stand in their places
+-- the first i numbers of a row stand in their slots
 pub record TakenTo (s : List ℕ) (at : ℕ) (ws ns : List ℕ) (i : ℕ) (ms : List ℕ) (next : ℕ) : Type 0 where
   pub in-row : i ≤ length ws
-  pub place : next ≡ at + total (take i ws)
+  pub position : next ≡ at + total (take i ws)
   pub hold : ms ≡ laid-to (unpacked ws (drop at (bits-of s))) ns i
 
 pub taken-none : (s : List ℕ) (at : ℕ) (ws ns : List ℕ) → TakenTo s at ws ns 0 ns at
 unfolding total
-taken-none s at ws ns = record { in-row = omega arith; place = sym (add-zero at); hold = sym (laid-none _ ns) }
+taken-none s at ws ns = record { in-row = omega arith; position = sym (add-zero at); hold = sym (laid-none _ ns) }
 
 module _ {s : List ℕ} {at : ℕ} {ws ns : List ℕ} (row : Takes (length s) at ws (length ns)) {i next : ℕ} {ms : List ℕ} (p : TakenTo s at ws ns i ms next) where
   as-many : length (unpacked ws (drop at (bits-of s))) ≡ length ws
@@ -44,25 +44,25 @@ module _ {s : List ℕ} {at : ℕ} {ws ns : List ℕ} (row : Takes (length s) at
     pub taken-inside : Inside (length s) next (getD ws i 0)
     taken-inside =
         let w = lawful-at ws (row .widths) i l in
-        record { low = w .0; high = w .1; there = omega (arith, p .place, total-part ws i l, row .room) }
+        record { low = w .0; high = w .1; there = omega (arith, p .position, total-part ws i l, row .room) }
 
     pub taken-more : (v : ℕ) → v ≡ number-taken (taken s next (getD ws i 0)) → TakenTo s at ws ns (i + 1) (set ms i v) (next + getD ws i 0)
     taken-more v e =
         let is : v ≡ getD (unpacked ws (drop at (bits-of s))) i 0 =
         e
         ∙ number-is s next (getD ws i 0) taken-inside
-        ∙ ap (λ (k : ℕ). value (field k (getD ws i 0) (bits-of s))) (p .place)
+        ∙ ap (λ (k : ℕ). value (field k (getD ws i 0) (bits-of s))) (p .position)
         ∙ ap value (field-drop at (total (take i ws)) (getD ws i 0) (bits-of s))
         ∙ sym (number-in ws (drop at (bits-of s)) i l) in
         record {
           in-row = omega arith;
-          place = rw (add-one i) (omega (arith, p .place, total-more ws i l));
+          position = rw (add-one i) (omega (arith, p .position, total-more ws i l));
           hold = rw (p .hold, is) (laid-more _ ns i 0 (omega (arith, as-many)) (omega (arith, row .enough)));
         }
 
   module _ (h : length ws ≤ i) where
     pub taken-end : next ≡ at + total ws
-    taken-end = p .place ∙ ap (λ (l : List ℕ). at + total l) (take-all i ws h)
+    taken-end = p .position ∙ ap (λ (l : List ℕ). at + total l) (take-all i ws h)
 
     pub taken-all : ms ≡ laid (unpacked ws (drop at (bits-of s))) ns
     taken-all =

@@ -7,11 +7,11 @@ use Rattle.check_word.specs.Division.{added, polynomial, divided, remainder, st
 use Rattle.lent.specs.Lent.{laid}
 use Rattle.records.specs.Rows.{packed, unpacked, total}
 use Rattle.records.specs.Sealed.{whole-bytes, sealed-record, some-set, rest-of}
-use Rattle.records.specs.Faces.{lawful, row-there, each-fits, row-fits, with-bits, stored-row, row-has-places, taken-row, closed}
+use Rattle.records.specs.Faces.{lawful, row-there, each-fits, row-fits, with-bits, stored-row, row-has-slots, taken-row, closed}
 use Rattle.records.specs.declared.Rest.the-variants.{Zeros, ByteLeft, BitSet}
 
 rows : Unit {0}
-unfolding packed unpacked total lawful row-there each-fits row-fits with-bits stored-row row-has-places taken-row laid value digits bits-of bytes-of with-field
+unfolding packed unpacked total lawful row-there each-fits row-fits with-bits stored-row row-has-slots taken-row laid value digits bits-of bytes-of with-field
 rows = tt
 
 records : Unit {0}

@@ -7,7 +7,7 @@ use lib.ListN.{length, take, drop}
 use Rattle.bits.specs.Packed.{bits-of, bytes-of, with-field}
 use Rattle.lent.specs.Lent.{laid}
 use Rattle.records.specs.Rows.{packed, unpacked, total}
-use Rattle.records.specs.Sealed.{record-size, sealed-record}
+use Rattle.records.specs.Sealed.{sealed-size, sealed-record}
 use Rattle.records.specs.declared.Row.{Row}
 use Rattle.records.specs.declared.Row.the-variants.{EndsAt, Untouched}
 
@@ -51,13 +51,13 @@ with-bits s at bits = bytes-of (length s) (with-field at bits (bits-of s))
 unfoldable pub stored-row : List ℕ → ℕ → List ℕ → List ℕ → List ℕ
 stored-row s at ws vs = cond (row-fits (length s) at ws vs) (with-bits s at (packed ws vs)) s
 
--- a row can be taken: its fields are there, and there are places for their numbers
-unfoldable pub row-has-places : ℕ → ℕ → List ℕ → ℕ → Bool
-row-has-places n at ws places = row-there n at ws && leb (length ws) places
+-- a row can be taken: its fields are there, and there are slots for their numbers
+unfoldable pub row-has-slots : ℕ → ℕ → List ℕ → ℕ → Bool
+row-has-slots n at ws slots = row-there n at ws && leb (length ws) slots
 
 -- the lent numbers with those of the row first; as they were, where the row cannot be taken
 unfoldable pub taken-row : List ℕ → ℕ → List ℕ → List ℕ → List ℕ
-taken-row s at ws ns = cond (row-has-places (length s) at ws (length ns)) (laid (unpacked ws (drop at (bits-of s))) ns) ns
+taken-row s at ws ns = cond (row-has-slots (length s) at ws (length ns)) (laid (unpacked ws (drop at (bits-of s))) ns) ns
 
 -- how many bits a row takes, as far as a position can tell
 abbrev pub width-of : List ℕ → ℕ
@@ -65,7 +65,7 @@ width-of ws = min (total ws) last-position
 
 -- a string has the size of the record of its first n bits
 abbrev pub closes : ℕ → ℕ → Bool
-closes size n = eqb size (record-size n)
+closes size n = eqb size (sealed-size n)
 
 -- the string made the record of its first n bits; as it was, where it has not that record's size
 unfoldable pub closed : List ℕ → ℕ → List ℕ

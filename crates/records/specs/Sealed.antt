@@ -26,8 +26,8 @@ unfoldable pub sealed-record : List Bool → List ℕ
 sealed-record bits = seal (whole-bytes bits)
 
 -- how many bytes the record of n bits has
-abbrev pub record-size : ℕ → ℕ
-record-size n = bytes-for n + word-size
+abbrev pub sealed-size : ℕ → ℕ
+sealed-size n = bytes-for n + word-size
 
 -- some bit is 1
 unfoldable pub some-set : List Bool → Bool

@@ -7,8 +7,8 @@ ghost use Rattle.bits.specs.Packed.{bits-of};
 ghost use Rattle.bits.specs.Faces.{taken};
 ghost use Rattle.lent.specs.Lent.{laid};
 ghost use Rattle.records.specs.Rows.{packed, unpacked, total};
-ghost use Rattle.records.specs.Sealed.{record-size, rest-of};
-ghost use Rattle.records.specs.Faces.{end-of, lawful, row-there, each-fits, ends, row-fits, stored-row, row-has-places, taken-row, width-of, closes, closed};
+ghost use Rattle.records.specs.Sealed.{sealed-size, rest-of};
+ghost use Rattle.records.specs.Faces.{end-of, lawful, row-there, each-fits, ends, row-fits, stored-row, row-has-slots, taken-row, width-of, closes, closed};
 ghost use Rattle.records.specs.Inside.Steps.{Placed, number-taken};
 use bits::Taken;
 
@@ -119,7 +119,7 @@ pub fn put_row(bytes: &mut [u8], at: usize, widths: &[usize], numbers: &[u32]) -
 }
 
 // The number in a field; 0 where there is no such field.
-fn number_at(bytes: &[u8], at: usize, width: usize) -> u32
+fn field_number(bytes: &[u8], at: usize, width: usize) -> u32
     ensures { λ r. ⌜ r ≡ number-taken (taken (now (bytes .entry)) at width) ⌝ }
 {
     match bits::take_field(bytes, at, width) {
@@ -130,14 +130,14 @@ fn number_at(bytes: &[u8], at: usize, width: usize) -> u32
 
 // The numbers of fields that are there go into the first of the lent numbers; the answer is the position behind the last field.
 fn take_fields(bytes: &[u8], at: usize, widths: &[usize], numbers: &mut [u32]) -> usize
-    requires { ⌜ row-has-places (length (now bytes)) at (now widths) (length (now numbers)) ≡ true ⌝ }
+    requires { ⌜ row-has-slots (length (now bytes)) at (now widths) (length (now numbers)) ≡ true ⌝ }
     ensures { λ r. ⌜ (r ≡ at + total (now (widths .entry))) × (now (numbers .exit) ≡ laid (unpacked (now (widths .entry)) (drop at (bits-of (now (bytes .entry))))) (now (numbers .entry))) ⌝ }
 {
     let mut next = at;
     let mut i: usize = 0;
     while i < widths.len() {
         let width = widths[i];
-        numbers[i] = number_at(bytes, next, width);
+        numbers[i] = field_number(bytes, next, width);
         next += width;
         i += 1;
     }
@@ -146,7 +146,7 @@ fn take_fields(bytes: &[u8], at: usize, widths: &[usize], numbers: &mut [u32]) -
 
 // The numbers of fields of the given widths from a bit position on go into the first of the lent numbers: all of them, or none.
 pub fn take_row(bytes: &[u8], at: usize, widths: &[usize], numbers: &mut [u32]) -> Row
-    ensures { λ r. ⌜ (r ≡ ends (row-has-places (length (now (bytes .entry))) at (now (widths .entry)) (length (now (numbers .entry)))) at (now (widths .entry))) × (now (numbers .exit) ≡ taken-row (now (bytes .entry)) at (now (widths .entry)) (now (numbers .entry))) ⌝ }
+    ensures { λ r. ⌜ (r ≡ ends (row-has-slots (length (now (bytes .entry))) at (now (widths .entry)) (length (now (numbers .entry)))) at (now (widths .entry))) × (now (numbers .exit) ≡ taken-row (now (bytes .entry)) at (now (widths .entry)) (now (numbers .entry))) ⌝ }
 {
     if !row_there(bytes.len(), at, widths) {
         return Row::Untouched;
@@ -189,15 +189,15 @@ pub fn left_behind(bytes: &[u8], at: usize) -> Rest
     if 1 < bytes.len() - byte {
         return Rest::ByteLeft;
     }
-    if number_at(bytes, at, 8 - used) != 0 {
+    if field_number(bytes, at, 8 - used) != 0 {
         return Rest::BitSet;
     }
     Rest::Zeros
 }
 
 // How many bytes a record of so many bits has.
-pub fn record_size(bits: usize) -> usize
-    ensures { λ r. ⌜ r ≡ record-size bits ⌝ }
+pub fn sealed_size(bits: usize) -> usize
+    ensures { λ r. ⌜ r ≡ sealed-size bits ⌝ }
 {
     bits / 8 + (bits % 8 + 7) / 8 + check_word::SIZE
 }
@@ -206,7 +206,7 @@ pub fn record_size(bits: usize) -> usize
 pub fn close(bytes: &mut [u8], bits: usize) -> bool
     ensures { λ r. ⌜ (r ≡ closes (length (now (bytes .entry))) bits) × (now (bytes .exit) ≡ closed (now (bytes .entry)) bits) ⌝ }
 {
-    if bytes.len() != record_size(bits) {
+    if bytes.len() != sealed_size(bits) {
         return false;
     }
     bits::put_field(bytes, bits, (8 - bits % 8) % 8, 0);

@@ -24,7 +24,7 @@ use Rattle.sheet.proofs.Checks.{applies}
 use Rattle.sheet.proofs.Carried.{Carried, reading-answer, by-reading}
 use Rattle.order.specs.Order.{priority-order, ordered-set}
 use Rattle.order.proofs.Laws.{ordered-length, ordered-admitted}
-use Rattle.analysis.specs.Times.{verdict-number, outcome-of, times-from, places-by, places-of}
+use Rattle.analysis.specs.Times.{verdict-number, outcome-of, times-from, slots-by, slots-of}
 use Rattle.analysis.specs.Findings.{finding-at}
 use Rattle.analysis.specs.Answers.{outcome-by, refused-analysis, analysis-by, sheet-analysis}
 use Rattle.analysis.specs.declared.Analysis.{Analysis}
@@ -51,14 +51,14 @@ task-lines-more order set p (suc n) =
 
 -- ---- a line
 
--- of the eight places those with a frame are printed
-words-same : (b : Bool) (times : List ℕ) (n : ℕ) → length times ≡ n → time-words b (take n (places-by b times)) ≡ time-words b times
-unfolding time-words places-by
+-- of the eight slots those with a frame are printed
+words-same : (b : Bool) (times : List ℕ) (n : ℕ) → length times ≡ n → time-words b (take n (slots-by b times)) ≡ time-words b times
+unfolding time-words slots-by
 words-same true times n e = ap (time-words true) (take-at times _ n e)
 words-same false times n e = refl
 
 line-same : (order : List ℕ) (set : List Task) (p : ℕ) → finding-line (finding-at order set p) ≡ task-line order set p
-unfolding finding-line finding-at task-line places-of
+unfolding finding-line finding-at task-line slots-of
 line-same order set p =
     rw (words-same (passes set p) (times-from set p 0 (frame-count (task-at set p))) (frame-count (task-at set p)) (length-times set p 0 (frame-count (task-at set p))))
 

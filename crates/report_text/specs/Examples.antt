@@ -10,7 +10,7 @@ use Rattle.theory.specs.Tasks.{Task, task-at, frame-count, frame, work, largest
 use Rattle.theory.specs.Analysis.{lower, largest-lock, blocking, blocker, higher, releases, higher-work, demand, response, demand-of, response-of, passes, verdict}
 use Rattle.records.specs.Rows.{packed, unpacked, total}
 use Rattle.records.specs.Sealed.{whole-bytes, sealed-record, some-set}
-use Rattle.sheet.specs.Layout.{header-in, records-in, frame-count-in, record-width, task-at-start, tasks-in}
+use Rattle.sheet.specs.Layout.{header-in, behind-header, frame-count-in, record-width, task-at-start, tasks-in}
 use Rattle.sheet.specs.Admission.{decided, known-policy, all, is-time, in-range, well-formed, lock-fits, monotonic, policy-check, task-count-check, frame-count-check, task-checks}
 use Rattle.sheet.specs.Reading.{layout-checks, sheet-checks, policy-of, tasks-of}
 use Rattle.sheet.specs.Writing.{header-bits, task-bits, tasks-bits, sheet-of}
@@ -36,5 +36,5 @@ pub report-of-f :
     ∷ 0x30 ∷ 0x20 ∷ 0x31 ∷ 0x30 ∷ 0x20 ∷ 0x34 ∷ 0x20 ∷ 0x32 ∷ 0x20 ∷ 0x34 ∷ 0x0A
     ∷ 0x31 ∷ 0x20 ∷ 0x32 ∷ 0x30 ∷ 0x20 ∷ 0x32 ∷ 0x30 ∷ 0x20 ∷ 0x30 ∷ 0x20 ∷ 0x37 ∷ 0x0A
     ∷ []
-unfolding report first-line blocker-word time-words task-line task-lines lines-behind line decimal decimal-of outcome-by outcome-of number-at place-of blocker-number verdict-number times-from key is-higher placed order-from priority-order ordered-set sheet-checks layout-checks policy-of tasks-of tasks-in task-at-start record-width frame-count-in records-in header-in some-set decided first-refusal known-policy task-checks policy-check task-count-check frame-count-check in-range well-formed lock-fits monotonic all is-time lower largest-lock blocking blocker higher releases higher-work demand response demand-of response-of passes verdict task-at frame-count frame work largest largest-frame qualifies start-frame deadline-of shortest-deadline first every found sheet-of sealed-record whole-bytes header-bits tasks-bits task-bits packed unpacked total sealed seal body check-word remainder divided started added polynomial xor bytes-of bits-of digits value
+unfolding report first-line blocker-word time-words task-line task-lines lines-behind line decimal decimal-of outcome-by outcome-of number-at place-of blocker-number verdict-number times-from key is-higher placed order-from priority-order ordered-set sheet-checks layout-checks policy-of tasks-of tasks-in task-at-start record-width frame-count-in behind-header header-in some-set decided first-refusal known-policy task-checks policy-check task-count-check frame-count-check in-range well-formed lock-fits monotonic all is-time lower largest-lock blocking blocker higher releases higher-work demand response demand-of response-of passes verdict task-at frame-count frame work largest largest-frame qualifies start-frame deadline-of shortest-deadline first every found sheet-of sealed-record whole-bytes header-bits tasks-bits task-bits packed unpacked total sealed seal body check-word remainder divided started added polynomial xor bytes-of bits-of digits value
 report-of-f = refl

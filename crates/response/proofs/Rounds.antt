@@ -77,7 +77,7 @@ pub record Round (above : Above) (base i x : ℕ) (cs : List Counted) (total : �
   pub y : ℕ
   pub earlier : y ≤ x
   pub full : length (above .tasks) ≡ most-tasks
-  pub places : length cs ≡ most-tasks
+  pub slots : length cs ≡ most-tasks
   pub counted : (j : ℕ) → j < i → UpTo (task-above above j) x (count-at cs j)
   pub uncounted : (j : ℕ) → i ≤ j → j < min (above .count) most-tasks → UpTo (task-above above j) y (count-at cs j)
   pub total-is : total ≡ base + mixed (above-in above) i x y
@@ -96,7 +96,7 @@ round-begins above base x full b =
       y = 0;
       earlier = omega arith;
       full = full;
-      places = b .room;
+      slots = b .room;
       counted = λ j l. let z : ⊥ = omega arith in absurd z;
       uncounted = λ j l k. rw (b .each j k) (up-to-begins (task-above above j));
       total-is = rw (mixed-none (above-in above) x 0, none-yet (above-in above)) (sym (add-zero base));
@@ -119,7 +119,7 @@ module _ {above : Above} {base i x : ℕ} {cs : List Counted} {total : ℕ} (r :
           y = r .y;
           earlier = r .earlier;
           full = r .full;
-          places = e;
+          slots = e;
           counted = λ j k. before j k (ℕ-discrete j i);
           uncounted = λ j k m. rw (same j (omega arith)) (r .uncounted j (omega arith) m);
           total-is = rw (add-one i) (omega (arith, next, r .total-is));
@@ -133,7 +133,7 @@ module _ {above : Above} {base i x : ℕ} {cs : List Counted} {total : ℕ} (r :
     pub round-skip : x ≤ count-at cs i .until → Round above base (i + 1) x cs total
     round-skip u =
         let stays : UpTo (task-above above i) x (count-at cs i) × (work-at (task-above above i) x ≡ work-at (task-above above i) (r .y)) = up-to-stays this (r .earlier) u in
-        round-next (r .places) (λ j n. refl) (stays .0) (omega (arith, stays .1))
+        round-next (r .slots) (λ j n. refl) (stays .0) (omega (arith, stays .1))
 
     module _ {deadline : ℕ} (u : count-at cs i .until < x) (t : x ≤ deadline) (d : deadline < 2 ^ 32) where
       pub round-ready : total ≤ deadline → Advancing (task-above above i) (count-at cs i) total x deadline
@@ -146,9 +146,9 @@ module _ {above : Above} {base i x : ℕ} {cs : List Counted} {total : ℕ} (r :
         round-count o =
             let on : UpTo (task-above above i) x (s .counted) × (s .total + work-at (task-above above i) (r .y) ≡ total + work-at (task-above above i) x) = up-to-on u t d a this o in
             round-next
-            (length-set cs i (s .counted) ∙ r .places)
+            (length-set cs i (s .counted) ∙ r .slots)
             (λ j n. getD-set-other cs i j (s .counted) (at-first 0) n)
-            (rw (getD-set-same cs i (s .counted) (at-first 0) (omega (arith, r .places))) (on .0))
+            (rw (getD-set-same cs i (s .counted) (at-first 0) (omega (arith, r .slots))) (on .0))
             (on .1)
 
         -- the total is at most the demand
@@ -167,7 +167,7 @@ module _ {above : Above} {base i x : ℕ} {cs : List Counted} {total : ℕ} (r :
           y = x;
           earlier = h;
           full = r .full;
-          places = r .places;
+          slots = r .slots;
           counted = λ j k. let z : ⊥ = omega arith in absurd z;
           uncounted = λ j k m. r .counted j (omega arith);
           total-is = rw (mixed-none (above-in above) x′ x) round-total;

@@ -14,7 +14,7 @@ pub struct Higher {
     pub task: Task,
 }
 
-// The tasks above one: of sixteen places, the first `count`.
+// The tasks above one: of sixteen slots, the first `count`.
 pub struct Above {
     pub count: u32,
     pub tasks: [Higher; Sheet::TASK_ROOM],

@@ -12,7 +12,7 @@ use Rattle.check_word.specs.Division.{body, sealed}
 use Rattle.theory.specs.Tasks.{Task}
 use Rattle.sheet.specs.Constants.{the-version, most-tasks, most-frames, least-size, greatest-size}
 use Rattle.sheet.specs.Tasks.{task-in, record-of, records-of, set-with}
-use Rattle.sheet.specs.Layout.{header-in, records-in}
+use Rattle.sheet.specs.Layout.{header-in, behind-header}
 use Rattle.sheet.specs.Admission.{decided, known-policy, policy-check, task-count-check, frame-count-check, task-checks, frame-count-checks, list-checks, admission}
 use Rattle.sheet.specs.Reading.{layout-checks, sheet-checks, policy-of, tasks-of, reading-by, reading}
 use Rattle.sheet.specs.declared.Task.{Task as Record}
@@ -121,7 +121,7 @@ pub record Found (s : List ℕ) : Type 0 where
   pub spare-zero : header-in (bits-of (body s)) .spare ≡ 0
   pub some-task : 1 ≤ header-in (bits-of (body s)) .task-count
   pub few-tasks : header-in (bits-of (body s)) .task-count ≤ most-tasks
-  pub layout : LaidOut (header-in (bits-of (body s)) .task-count) (records-in (bits-of (body s)))
+  pub layout : LaidOut (header-in (bits-of (body s)) .task-count) (behind-header (bits-of (body s)))
   pub formed : decided (task-checks 0 (tasks-of s)) ≡ Admitted
 
 pub reading-answer : (s : List ℕ) → reading s .answer ≡ decided (sheet-checks s)
@@ -143,7 +143,7 @@ found s a =
     let four = passed _ _ (three .1) in
     let five = passed _ _ (four .1) in
     let six = passed _ _ (five .1) in
-    let later = both-passed (layout-checks 0 (header .task-count) (records-in bits)) (task-checks 0 (tasks-of s)) (six .1) in
+    let later = both-passed (layout-checks 0 (header .task-count) (behind-header bits)) (task-checks 0 (tasks-of s)) (six .1) in
     let size = and-eq-true-iff (leb least-size (length s)) (leb (length s) greatest-size) .0 (not-false _ (one .0)) in
     let count = count-passed (header .task-count) most-tasks (six .0) in
     record {
@@ -155,7 +155,7 @@ found s a =
       spare-zero = eqb-true (header .spare) 0 (not-false _ (five .0));
       some-task = count .0;
       few-tasks = count .1;
-      layout = layout-read 0 (header .task-count) (records-in bits) (later .0);
+      layout = layout-read 0 (header .task-count) (behind-header bits) (later .0);
       formed = later .1;
     }
 
@@ -163,7 +163,7 @@ pub by-reading : (s : List ℕ) → reading s .answer ≡ Admitted → Carried (
 unfolding tasks-of
 by-reading s a =
     let f : Found s = found s a in
-    let n = length-tasks-in (header-in (bits-of (body s)) .task-count) (records-in (bits-of (body s))) in
+    let n = length-tasks-in (header-in (bits-of (body s)) .task-count) (behind-header (bits-of (body s))) in
     record {
       policy-known = f .policy-known;
       some-task = rw n (f .some-task);

@@ -12,7 +12,7 @@ use Rattle.theory.specs.Tasks.{Task}
 use Rattle.sheet.specs.Constants.{the-version, most-frames, policy-width, task-count-width, frame-count-width, time-width}
 use Rattle.records.specs.Rows.{packed, unpacked, total}
 use Rattle.sheet.specs.Fields.{header-widths, fixed-widths, frame-widths}
-use Rattle.sheet.specs.Layout.{Header, header-in, records-in, frame-count-in, record-width, task-at-start, tasks-in}
+use Rattle.sheet.specs.Layout.{Header, header-in, behind-header, frame-count-in, record-width, task-at-start, tasks-in}
 use Rattle.sheet.specs.Admission.{decided, frame-count-check}
 use Rattle.sheet.specs.Reading.{layout-checks}
 use Rattle.sheet.specs.Writing.{header-bits, task-bits, tasks-bits}
@@ -41,8 +41,8 @@ pub length-header : (p n : ℕ) → length (header-bits p n) ≡ total header-wi
 unfolding header-bits
 length-header p n = length-packed header-widths (the-version ∷ p ∷ n ∷ 0 ∷ []) refl
 
-pub records-written : (p n : ℕ) (rest : List Bool) → records-in (header-bits p n ++ rest) ≡ rest
-unfolding records-in
+pub records-written : (p n : ℕ) (rest : List Bool) → behind-header (header-bits p n ++ rest) ≡ rest
+unfolding behind-header
 records-written p n rest = drop-at (header-bits p n) rest (total header-widths) (length-header p n)
 
 -- a header of this version with no spare bit set writes to the bits that it was in

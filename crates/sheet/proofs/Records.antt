@@ -1,4 +1,4 @@
--- Tasks put into records and taken out again, and the places of a record and of a set that are in use.
+-- Tasks put into records and taken out again, and the slots of a record and of a set that are in use.
 use mathlib.Core.List.{List, [], _∷_, _++_, map}
 use mathlib.Core.Path.{_≡_, refl, sym, ap, ap₂, _∙_}
 use Prim.Native.Nat.{ℕ, _≤_, _<_, _-_, min}
@@ -31,24 +31,24 @@ records-with policy ts = take-at (map record-of ts) _ (length ts) (length-map ts
 pub tasks-with : (policy : ℕ) (ts : List Task) → map task-in (records-of (set-with policy ts)) ≡ ts
 tasks-with policy ts = ap (map task-in) (records-with policy ts) ∙ tasks-in-records ts
 
--- ---- places in use
+-- ---- slots in use
 
--- a count takes no more places than there are
-pub taken-places {ℓ} : {A : Type ℓ} (xs : List A) (n places : ℕ) → length xs ≡ places → take (min n places) xs ≡ take n xs
-taken-places xs n places e = go (decLe n places)
+-- a count takes no more slots than there are
+pub taken-slots {ℓ} : {A : Type ℓ} (xs : List A) (n slots : ℕ) → length xs ≡ slots → take (min n slots) xs ≡ take n xs
+taken-slots xs n slots e = go (decLe n slots)
   where
-    go : Dec (n ≤ places) → take (min n places) xs ≡ take n xs
+    go : Dec (n ≤ slots) → take (min n slots) xs ≡ take n xs
     go (yes h) = rw (min-eq-left h)
-    go (no h) = let le : places ≤ n = omega arith in rw (min-eq-right le, take-all places xs (omega arith), take-all n xs (omega arith))
+    go (no h) = let le : slots ≤ n = omega arith in rw (min-eq-right le, take-all slots xs (omega arith), take-all n xs (omega arith))
 
 -- the frames in use are those of the task
 pub frames-used : (r : Record) (count : ℕ) → (count ≡ min (r .«frame_count») most-frames) × (length (r .frames) ≡ most-frames)
     → take count (r .frames) ≡ task-in r .frames
 unfolding task-in
-frames-used r count e = rw (e .0) (taken-places (r .frames) (r .«frame_count») most-frames (e .1))
+frames-used r count e = rw (e .0) (taken-slots (r .frames) (r .«frame_count») most-frames (e .1))
 
 -- the records in use
 pub records-used : (s : TaskSet) (count : ℕ) → (count ≡ min (s .«task_count») most-tasks) × (length (s .tasks) ≡ most-tasks)
     → take count (s .tasks) ≡ records-of s
 unfolding records-of
-records-used s count e = rw (e .0) (taken-places (s .tasks) (s .«task_count») most-tasks (e .1))
+records-used s count e = rw (e .0) (taken-slots (s .tasks) (s .«task_count») most-tasks (e .1))

@@ -19,14 +19,14 @@ use Rattle.sheet.proofs.Carried.{count-in-use, by-admission, to-admissi
 use Rattle.sheet.proofs.SheetBits.{sheet-is-read, sheet-of-carried}
 use Rattle.sheet.proofs.WhatIsWritten.{IsWritten, is-written, bytes-written, take-left}
 
--- Demand 2, a set first: the sheet of an admitted set is admitted, and is read as the same policy and the same tasks over the places in use.
+-- Demand 2, a set first: the sheet of an admitted set is admitted, and is read as the same policy and the same tasks over the slots in use.
 -- (A set by value has sixteen records, of which `task_count` are in use.)
 pub write-then-read : (s : TaskSet) → length (s .tasks) ≡ most-tasks → admission s ≡ Admitted
     → reading (sheet-bytes s) ≡ record { answer = Admitted; set = set-with (s .policy) (map task-in (records-of s)) }
 unfolding sheet-bytes
 write-then-read s room e = sheet-is-read (s .policy) (map task-in (records-of s)) (by-admission s room e)
 
--- In other words: policy, count and the tasks over the places in use come back.
+-- In other words: policy, count and the tasks over the slots in use come back.
 pub set-comes-back : (s : TaskSet) → length (s .tasks) ≡ most-tasks → admission s ≡ Admitted
     → (reading (sheet-bytes s) .answer ≡ Admitted)
     × (reading (sheet-bytes s) .set .policy ≡ s .policy)

@@ -20,7 +20,7 @@ use Rattle.theory.specs.Tasks.{Task}
 use Rattle.sheet.specs.Constants.{the-version, most-tasks, least-size, greatest-size}
 use Rattle.sheet.specs.Fields.{header-widths}
 use Rattle.sheet.specs.Tasks.{set-with}
-use Rattle.sheet.specs.Layout.{Header, header-in, records-in, tasks-in}
+use Rattle.sheet.specs.Layout.{Header, header-in, behind-header, tasks-in}
 use Rattle.sheet.specs.Admission.{decided, known-policy, policy-check, task-count-check, task-checks}
 use Rattle.sheet.specs.Reading.{layout-checks, sheet-checks, policy-of, tasks-of, reading}
 use Rattle.sheet.specs.Writing.{header-bits, tasks-bits, sheet-of}
@@ -42,11 +42,11 @@ module _ (policy : ℕ) (ts : List Task) (c : Carried policy ts) where
   fill : ℕ
   fill = fill-of (set-bits policy ts)
 
-  behind-header : List Bool
-  behind-header = tasks-bits ts ++ replicate fill false
+  records-and-fill : List Bool
+  records-and-fill = tasks-bits ts ++ replicate fill false
 
-  body-bits : bits-of (body (sheet-of policy ts)) ≡ header-bits policy (length ts) ++ behind-header
-  unfolding sheet-of set-bits fill behind-header
+  body-bits : bits-of (body (sheet-of policy ts)) ≡ header-bits policy (length ts) ++ records-and-fill
+  unfolding sheet-of set-bits fill records-and-fill
   body-bits =
       record-bits (set-bits policy ts)
       ∙ append-assoc (header-bits policy (length ts)) (tasks-bits ts) (replicate fill false)
@@ -56,17 +56,17 @@ module _ (policy : ℕ) (ts : List Task) (c : Carried policy ts) where
 
   header-is : header-in (bits-of (body (sheet-of policy ts))) ≡ the-header
   unfolding the-header
-  header-is = ap header-in body-bits ∙ header-written policy (length ts) behind-header (omega (arith, known-small policy (c .policy-known))) (omega (arith, c .few-tasks))
+  header-is = ap header-in body-bits ∙ header-written policy (length ts) records-and-fill (omega (arith, known-small policy (c .policy-known))) (omega (arith, c .few-tasks))
 
-  records-are : records-in (bits-of (body (sheet-of policy ts))) ≡ behind-header
-  records-are = ap records-in body-bits ∙ records-written policy (length ts) behind-header
+  records-are : behind-header (bits-of (body (sheet-of policy ts))) ≡ records-and-fill
+  records-are = ap behind-header body-bits ∙ records-written policy (length ts) records-and-fill
 
   policy-is : policy-of (sheet-of policy ts) ≡ policy
   unfolding policy-of the-header
   policy-is = ap (λ (h : Header). h .policy) header-is
 
   tasks-are : tasks-of (sheet-of policy ts) ≡ ts
-  unfolding tasks-of the-header behind-header
+  unfolding tasks-of the-header records-and-fill
   tasks-are = ap₂ (λ (h : Header) (bs : List Bool). tasks-in (h .task-count) bs) header-is records-are ∙ tasks-written ts (replicate fill false) (carried-fit c)
 
   is-sealed : sealed (sheet-of policy ts) ≡ true
@@ -74,7 +74,7 @@ module _ (policy : ℕ) (ts : List Task) (c : Carried policy ts) where
   is-sealed = sealed-seal (whole-bytes (set-bits policy ts))
 
   checks-admit : decided (sheet-checks (sheet-of policy ts)) ≡ Admitted
-  unfolding sheet-checks policy-check task-count-check the-header behind-header fill
+  unfolding sheet-checks policy-check task-count-check the-header records-and-fill fill
   checks-admit =
       let s = sheet-of policy ts in
       let size = size-between policy ts (c .some-task) (c .few-tasks) (c .counted) in
@@ -87,7 +87,7 @@ module _ (policy : ℕ) (ts : List Task) (c : Carried policy ts) where
       (ap (λ (h : Header). eqb (h .task-count) 0 || ltb most-tasks (h .task-count)) header-is
       ∙ count-passes (length ts) most-tasks (c .some-task) (c .few-tasks))
       ∙ ap₂ (λ (h : Header) (bs : List Bool). decided (layout-checks 0 (h .task-count) bs ++ task-checks 0 (tasks-in (h .task-count) bs))) header-is records-are
-      ∙ admitted-first (layout-checks 0 (length ts) behind-header) (task-checks 0 (tasks-in (length ts) behind-header))
+      ∙ admitted-first (layout-checks 0 (length ts) records-and-fill) (task-checks 0 (tasks-in (length ts) records-and-fill))
       (layout-written 0 ts fill (carried-fit c) (fill-short (set-bits policy ts)))
       ∙ ap (λ (us : List Task). decided (task-checks 0 us)) (tasks-written ts (replicate fill false) (carried-fit c))
       ∙ c .formed
@@ -106,15 +106,15 @@ header-there s f = rw (length-bits (body s), length-take-le (length s - 2) s (om
 
 -- the bits of a sheet whose checks pass: header and task records of what it carries, and the fill
 carried-bits : (s : List ℕ) (f : Found s) → bits-of (body s) ≡ set-bits (policy-of s) (tasks-of s) ++ replicate (f .layout .fill) false
-unfolding set-bits policy-of tasks-of records-in total
+unfolding set-bits policy-of tasks-of behind-header total
 carried-bits s f =
     let bits = bits-of (body s) in
     let n = header-in bits .task-count in
-    let ts = tasks-in n (records-in bits) in
+    let ts = tasks-in n (behind-header bits) in
     sym (take-append-drop (total header-widths) bits)
     ∙ ap₂ _++_
     (sym (header-read bits (header-there s f) (f .version-known) (f .spare-zero))
-    ∙ ap (header-bits (header-in bits .policy)) (sym (length-tasks-in n (records-in bits))))
+    ∙ ap (header-bits (header-in bits .policy)) (sym (length-tasks-in n (behind-header bits))))
     (f .layout .bits-are)
     ∙ sym (append-assoc (header-bits (header-in bits .policy) (length ts)) (tasks-bits ts) (replicate (f .layout .fill) false))
 

@@ -5,7 +5,7 @@ use Prim.Native.Nat.{ℕ, _+_, _*_, _≤_}
 use native.Mathlib.Omega.{arith}
 use lib.ListN.{length, replicate, length-append}
 use Rattle.records.specs.Rows.{total}
-use Rattle.records.specs.Sealed.{record-size}
+use Rattle.records.specs.Sealed.{sealed-size}
 use Rattle.records.proofs.Filling.{length-record}
 use Rattle.theory.specs.Tasks.{Task, frame-count}
 use Rattle.sheet.specs.Constants.{time-width, most-tasks, most-frames, least-size, greatest-size}
@@ -27,7 +27,7 @@ record-widths (n ∷ ns) = (total fixed-widths + total (frame-widths n)) + recor
 
 -- the bytes of their sheet: the record of header and task records
 unfoldable pub sheet-size : List ℕ → ℕ
-sheet-size ns = record-size (total header-widths + record-widths ns)
+sheet-size ns = sealed-size (total header-widths + record-widths ns)
 
 -- the frame counts of tasks
 abbrev pub frame-counts : List Task → List ℕ
@@ -46,7 +46,7 @@ unfolding sheet-of sheet-size
 length-sheet policy ts =
     let head = header-bits policy (length ts) in
     length-record (head ++ tasks-bits ts)
-    ∙ ap record-size (length-append head (tasks-bits ts) ∙ ap₂ _+_ (length-header policy (length ts)) (length-tasks-bits ts))
+    ∙ ap sealed-size (length-append head (tasks-bits ts) ∙ ap₂ _+_ (length-header policy (length ts)) (length-tasks-bits ts))
 
 -- In numbers: 64 bits and 20 for each frame, in whole bytes behind the header.
 pub size-in-numbers : (n : ℕ) (ns : List ℕ) → record-widths (n ∷ ns) ≡ (64 + 20 * n) + record-widths ns

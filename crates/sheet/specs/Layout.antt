@@ -21,8 +21,8 @@ header-in bits =
     record { version = getD f 0 0; policy = getD f 1 0; task-count = getD f 2 0; spare = getD f 3 0 }
 
 -- the bits behind the header
-unfoldable pub records-in : List Bool → List Bool
-records-in bits = drop (total header-widths) bits
+unfoldable pub behind-header : List Bool → List Bool
+behind-header bits = drop (total header-widths) bits
 
 -- the frame count of the task record at the start of the bits
 unfoldable pub frame-count-in : List Bool → ℕ

@@ -12,7 +12,7 @@ use Rattle.records.specs.Rows.{total}
 use Rattle.records.specs.Sealed.{byte-width, some-set}
 use Rattle.sheet.specs.Fields.{fixed-widths}
 use Rattle.sheet.specs.Tasks.{set-with, blank-set}
-use Rattle.sheet.specs.Layout.{header-in, records-in, frame-count-in, record-width, tasks-in}
+use Rattle.sheet.specs.Layout.{header-in, behind-header, frame-count-in, record-width, tasks-in}
 use Rattle.lent.specs.Checks.{Check, _⇒_}
 use Rattle.sheet.specs.Admission.{decided, policy-check, task-count-check, frame-count-check, task-checks}
 use Rattle.sheet.specs.declared.Answer.{Answer}
@@ -42,15 +42,15 @@ sheet-checks s =
     ∷ policy-check (header .policy)
     ∷ (not (eqb (header .spare) 0) ⇒ BitSet)
     ∷ task-count-check (header .task-count)
-    ∷ layout-checks 0 (header .task-count) (records-in bits)
-    ++ task-checks 0 (tasks-in (header .task-count) (records-in bits))
+    ∷ layout-checks 0 (header .task-count) (behind-header bits)
+    ++ task-checks 0 (tasks-in (header .task-count) (behind-header bits))
 
 -- what an admitted sheet carries
 unfoldable pub policy-of : List ℕ → ℕ
 policy-of s = header-in (bits-of (body s)) .policy
 
 unfoldable pub tasks-of : List ℕ → List Task
-tasks-of s = let bits = bits-of (body s) in tasks-in (header-in bits .task-count) (records-in bits)
+tasks-of s = let bits = bits-of (body s) in tasks-in (header-in bits .task-count) (behind-header bits)
 
 -- the answer, and beside it the set where the sheet is admitted
 unfoldable pub reading-by : Answer → List ℕ → Reading

@@ -9,11 +9,11 @@ use Rattle.sheet.specs.Constants.{most-tasks, most-frames}
 use Rattle.sheet.specs.declared.Task.{Task as Record}
 use Rattle.sheet.specs.declared.TaskSet.{TaskSet}
 
--- the task that a record holds: frame places past its count are not read
+-- the task that a record holds: frame slots past its count are not read
 unfoldable pub task-in : Record → Task
 task-in r = record { period = r .period; deadline = r .deadline; lock = r .lock; frames = take (r .«frame_count») (r .frames) }
 
--- the record of a task: frame places past its count are 0
+-- the record of a task: frame slots past its count are 0
 unfoldable pub record-of : Task → Record
 record-of t =
     record {

@@ -10,7 +10,7 @@ ghost use Rattle.sheet.specs.Tasks.{task-in, blank-record, blank-set, ne
 ghost use Rattle.sheet.specs.Admission.{known-policy, miscounted};
 ghost use Rattle.sheet.specs.Refusals.{number-of, task-of-refusal};
 
-// A task as the workbench holds it: places of `frames` past `frame_count` are not read, and are 0 when a record is filled.
+// A task as the workbench holds it: slots of `frames` past `frame_count` are not read, and are 0 when a record is filled.
 #[repr(C)]
 pub struct Task {
     pub period: u32,
@@ -147,7 +147,7 @@ impl Sheet {
         ]
     }
 
-    // As many as a record has places for.
+    // As many as a record has slots for.
     pub fn frame_widths() -> [usize; Sheet::FRAME_ROOM]
         ensures { λ r. ⌜ r ≡ frame-widths most-frames ⌝ }
     {
@@ -193,7 +193,7 @@ impl Task {
     }
 }
 
-// How many of a record's frames are in use: no more than there are places.
+// How many of a record's frames are in use: no more than there are slots.
 pub fn frames_in(count: u32, frames: [u32; Sheet::FRAME_ROOM]) -> usize
     ensures { λ r. ⌜ (r ≡ min count most-frames) × (length frames ≡ most-frames) ⌝ }
 {

@@ -2,7 +2,7 @@
 pub mod Times
 pub mod Numbers
 pub mod Memory
-pub mod Doors
+pub mod Entries
 pub mod Promised
 pub mod RoundTrip
 pub mod Damage

@@ -23,7 +23,7 @@ use Rattle.lists.specs.declared.ListRead.{ListRead}
 use Rattle.lists.specs.declared.ListRead.the-variants.{Set}
 use Rattle.lists.specs.declared.ListRead.the-variants.{TurnedAway as not-read}
 use Rattle.signed.specs.Claims.{missed, refused, said}
-use Rattle.signed.specs.Numbers.{blocker-by, said-by, refusal-by, refused-by, read-by, written-by, verdict-by, outcome-by}
+use Rattle.signed.specs.Numbers.{blocker-by, said-by, refusal-by, refused-by, list-read-by, list-written-by, verdict-by, list-outcome-by}
 
 -- ---- refusals
 
@@ -122,13 +122,13 @@ module _ (m : ℕ) where
   detail : above-refusals * m / above-refusals ≡ m
   detail = omega arith
 
-pub written-back : (w : Written) → written-by (written-code w) ≡ w
-unfolding written-by
+pub written-back : (w : Written) → list-written-by (written-code w) ≡ w
+unfolding list-written-by
 written-back (Bytes n) = rw (with-none n, detail n)
 written-back (not-written r) = rw (with-refusal r) (ap not-written (refused-back r))
 
-pub read-back : (x : ListRead) → ((policy count : ℕ) → x ≡ Set policy count → policy < above-policies) → read-by (read-code x) ≡ x
-unfolding read-by
+pub read-back : (x : ListRead) → ((policy count : ℕ) → x ≡ Set policy count → policy < above-policies) → list-read-by (read-code x) ≡ x
+unfolding list-read-by
 read-back (Set policy count) h =
     let small = h policy count refl in
     let low : (policy + above-policies * count) % above-policies ≡ policy = omega arith in
@@ -140,8 +140,8 @@ miss-back : (p c : ℕ) → c ≤ 16 → verdict-by (100 + 17 * p + c) ≡ Misse
 unfolding verdict-by
 miss-back p c h = rw (ne-eqb (100 + 17 * p + c) 0 (omega arith), less p c h, quotient p c h, rest p c h)
 
-pub outcome-back : (o : Outcome) → FewOf o → outcome-by (outcome-code o) ≡ o
-unfolding outcome-by verdict-by FewOf
+pub outcome-back : (o : Outcome) → FewOf o → list-outcome-by (outcome-code o) ≡ o
+unfolding list-outcome-by verdict-by FewOf
 outcome-back Holds h = refl
 outcome-back (Missed p b) h =
     let (same, small) = blocker-back b h in

@@ -24,7 +24,7 @@ use Rattle.signed.specs.Numbers.{IsNumber, it-holds, it-refuses, task-mi
 use Rattle.signed.proofs.Times.{each, signed}
 use Rattle.signed.proofs.Numbers.{refusal-range, FewOf}
 use Rattle.signed.proofs.Memory.{stored, time-laid, surplus-kept}
-use Rattle.signed.proofs.Doors.{Sound, Analysed, is-refused, is-analysed}
+use Rattle.signed.proofs.Entries.{Sound, Analysed, is-refused, is-analysed}
 
 module _ (policy : ℕ) (tasks : List Task) (sound : Sound policy tasks) where
   eight : (i : ℕ) → frame-count (task-at tasks i) ≤ 8

@@ -35,7 +35,7 @@ use Rattle.signed.proofs.Words.{Plain, AllPlain, words-of-line, decimal
 use Rattle.signed.proofs.Numbers.{refusal-range}
 use Rattle.signed.proofs.Times.{worst-time, some-miss}
 use Rattle.signed.proofs.Promised.{laid-signed}
-use Rattle.signed.proofs.Doors.{Sound, Reported, no-report, is-reported}
+use Rattle.signed.proofs.Entries.{Sound, Reported, no-report, is-reported}
 
 -- the text that a report has
 pub text-back : (l : List ℕ) → text-in (text-of l) ≡ l

@@ -26,7 +26,7 @@ use Rattle.sheet.proofs.RoundTrip.{read-then-write}
 use Rattle.lists.specs.Faces.{list-read, list-filled, list-written, list-left}
 use Rattle.lists.specs.declared.ListRead.{ListRead}
 use Rattle.lists.specs.declared.ListRead.the-variants.{Set}
-use Rattle.signed.proofs.Doors.{Sound, Read, no-read, is-read, reads, Wrote, no-write, is-written, writes}
+use Rattle.signed.proofs.Entries.{Sound, Read, no-read, is-read, reads, Wrote, no-write, is-written, writes}
 
 -- the sheet of tasks carries these tasks
 module _ (policy : ℕ) (ts : List Task) (c : Carried policy ts) where
@@ -46,7 +46,7 @@ module _ (policy : ℕ) (ts : List Task) (c : Carried policy ts) where
   same-tasks : tasks-of its-sheet ≡ ts
   same-tasks = sym (tasks-with (policy-of its-sheet) (tasks-of its-sheet)) ∙ ap (λ (s : TaskSet). map task-in (records-of s)) same-set ∙ tasks-with policy ts
 
--- records laid over a list are the tasks' over the places in use
+-- records laid over a list are the tasks' over the slots in use
 module _ (ts : List Task) (before : List Record) (n : ℕ) (e : length ts ≡ n) where
   records-laid : take n (laid (map record-of ts) before) ≡ map record-of ts
   unfolding laid

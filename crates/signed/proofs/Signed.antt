@@ -1,4 +1,4 @@
--- What we sign for, at the doors: the three demands, of each public entry. Every theorem is about any call that keeps its contract
+-- What we sign for, at the entries: the three demands, of each public entry. Every theorem is about any call that keeps its contract
 -- (specs/Calls.antt): its answer, and its lent memory before and after. What is claimed stands in specs/Claims.antt and specs/Numbers.antt.
 use mathlib.Core.List.{List, [], _∷_, map}
 use mathlib.Core.Logic.{_↔_}
@@ -51,11 +51,11 @@ use Rattle.report_text.specs.Report.{first-line, report}
 use Rattle.report_text.specs.declared.Text.{Text}
 use Rattle.signed.specs.Calls.{ReportText, AnalyseSet, AnalyseSheet, AnalyseList, ReadList, WriteList, CheckSheetC, AnalyseListC, ReadListC, WriteListC}
 use Rattle.signed.specs.Claims.{said, holds, missed, refused, in-numbers, in-bytes, WorstTime, Signed, refusal-to, Damaged}
-use Rattle.signed.specs.Numbers.{blocker-by, said-by, IsNumber, read-by, written-by, outcome-by}
+use Rattle.signed.specs.Numbers.{blocker-by, said-by, IsNumber, list-read-by, list-written-by, list-outcome-by}
 use Rattle.signed.specs.Reports.{words-in, said-in, text-in, ReportSigned}
 use Rattle.signed.proofs.Report.{text-back, not-refusing, refusing, report-promised}
 use Rattle.signed.proofs.Numbers.{miss-said, refusal-said, said-back, written-back, read-back, outcome-back}
-use Rattle.signed.proofs.Doors as doors
+use Rattle.signed.proofs.Entries as entries
 use Rattle.signed.proofs.Promised.{promised, few-of, number-given, number-refused, outcome-number}
 use Rattle.signed.proofs.RoundTrip as trip
 use Rattle.signed.proofs.Damage as damage
@@ -100,60 +100,60 @@ pub check-sheet-c-number : (sheet before after : List ℕ) (number : ℕ)
     → CheckSheetC sheet before number after
     → IsNumber (length (tasks-of sheet)) number
 check-sheet-c-number sheet before after number c =
-    let (outcome, same, a) = doors.check-door sheet before in
+    let (outcome, same, a) = entries.check-entry sheet before in
     rw (c .answers ∙ same) (number-given (policy-of sheet) (tasks-of sheet) in-bytes before _ outcome (promised a))
 
 -- The list entries for C are those for Rattle, with the answer that their number says.
 pub analyse-list-c-says : (policy : ℕ) (list : List Record) (before after : List ℕ) (number : ℕ)
     → AnalyseListC policy list before number after
-    → AnalyseList policy list before (outcome-by number) after
+    → AnalyseList policy list before (list-outcome-by number) after
 analyse-list-c-says policy list before after number c =
     record {
-      answers = ap outcome-by (c .answers) ∙ outcome-back (list-analysed policy list before) (few-of (doors.list-door policy list before));
+      answers = ap list-outcome-by (c .answers) ∙ outcome-back (list-analysed policy list before) (few-of (entries.list-entry policy list before));
       leaves = c .leaves;
     }
 
 pub read-list-c-says : (sheet : List ℕ) (before after : List Record) (number : ℕ)
     → ReadListC sheet before number after
-    → ReadList sheet before (read-by number) after
+    → ReadList sheet before (list-read-by number) after
 read-list-c-says sheet before after number c =
-    record { answers = ap read-by (c .answers) ∙ read-back (list-read sheet before) (doors.known-read sheet before _ _ (doors.read-door sheet before)); leaves = c .leaves }
+    record { answers = ap list-read-by (c .answers) ∙ read-back (list-read sheet before) (entries.known-read sheet before _ _ (entries.read-entry sheet before)); leaves = c .leaves }
 
 pub write-list-c-says : (policy : ℕ) (list : List Record) (before after : List ℕ) (number : ℕ)
     → WriteListC policy list before number after
-    → WriteList policy list before (written-by number) after
+    → WriteList policy list before (list-written-by number) after
 write-list-c-says policy list before after number c =
-    record { answers = ap written-by (c .answers) ∙ written-back (list-written policy list before); leaves = c .leaves }
+    record { answers = ap list-written-by (c .answers) ∙ written-back (list-written policy list before); leaves = c .leaves }
 
 -- ---- Demand 1: every input is admitted or gets the one refusal that the order names; 12 comes last
 
 pub analyse-set-turned : (set : TaskSet) (before after : List ℕ) (answer : Outcome) → length (set .tasks) ≡ most-tasks
     → AnalyseSet set before answer after
     → (why : Refusal) → (answer ≡ Refused why) ↔ (refusal-to (admission set) (most-frames * length (map task-in (records-of set))) (length before) ≡ some why)
-analyse-set-turned set before after answer sixteen c why = rw (c .answers) (doors.set-exactly set before sixteen why)
+analyse-set-turned set before after answer sixteen c why = rw (c .answers) (entries.set-exactly set before sixteen why)
 
 pub analyse-sheet-turned : (sheet before after : List ℕ) (answer : Outcome)
     → AnalyseSheet sheet before answer after
     → (why : Refusal) → (answer ≡ Refused why) ↔ (refusal-to (reading sheet .answer) (most-frames * length (tasks-of sheet)) (length before) ≡ some why)
-analyse-sheet-turned sheet before after answer c why = rw (c .answers) (doors.sheet-exactly sheet before why)
+analyse-sheet-turned sheet before after answer c why = rw (c .answers) (entries.sheet-exactly sheet before why)
 
 pub analyse-list-turned : (policy : ℕ) (list : List Record) (before after : List ℕ) (answer : Outcome)
     → AnalyseList policy list before answer after
     → (why : Refusal)
     → (answer ≡ Refused why) ↔ (refusal-to (decided (list-checks policy (length list) list)) (most-frames * length (map task-in list)) (length before) ≡ some why)
-analyse-list-turned policy list before after answer c why = rw (c .answers) (doors.list-exactly policy list before why)
+analyse-list-turned policy list before after answer c why = rw (c .answers) (entries.list-exactly policy list before why)
 
 pub read-list-turned : (sheet : List ℕ) (before after : List Record) (answer : ListRead)
     → ReadList sheet before answer after
     → (why : Refusal) → (answer ≡ not-read why) ↔ (refusal-to (reading sheet .answer) (length (tasks-of sheet)) (length before) ≡ some why)
-read-list-turned sheet before after answer c why = rw (c .answers) (doors.read-exactly sheet before why)
+read-list-turned sheet before after answer c why = rw (c .answers) (entries.read-exactly sheet before why)
 
 pub write-list-turned : (policy : ℕ) (list : List Record) (before after : List ℕ) (answer : Written)
     → WriteList policy list before answer after
     → (why : Refusal)
     → (answer ≡ not-written why)
     ↔ (refusal-to (decided (list-checks policy (length list) list)) (length (sheet-of policy (map task-in list))) (length before) ≡ some why)
-write-list-turned policy list before after answer c why = rw (c .answers) (doors.write-exactly policy list before why)
+write-list-turned policy list before after answer c why = rw (c .answers) (entries.write-exactly policy list before why)
 
 -- the number is that of the refusal; where there is none it is not from 1 to 12
 pub check-sheet-c-turned : (sheet before after : List ℕ) (number : ℕ)
@@ -161,7 +161,7 @@ pub check-sheet-c-turned : (sheet before after : List ℕ) (number : ℕ)
     → ((why : Refusal) → refusal-to (reading sheet .answer) (4 * (most-frames * length (tasks-of sheet))) (length before) ≡ some why → number ≡ number-of why)
     × (refusal-to (reading sheet .answer) (4 * (most-frames * length (tasks-of sheet))) (length before) ≡ none → 1 ≤ number → ¬ (number ≤ 12))
 check-sheet-c-turned sheet before after number c =
-    let (numbered, analysed) = doors.check-exactly sheet before in (
+    let (numbered, analysed) = entries.check-exactly sheet before in (
       λ why e. c .answers ∙ numbered why e,
       λ e l h. outcome-number (policy-of sheet) (tasks-of sheet) (rw (c .answers ∙ analysed e) at l) (rw (c .answers ∙ analysed e) at h),
     )
@@ -174,36 +174,36 @@ pub report-text-turned : (sheet : List ℕ) (answer : Text)
 report-text-turned sheet answer c =
     let text : text-in answer ≡ report sheet = ap text-in (c .answers) ∙ text-back (report sheet) in (
       λ why e.
-          ap (λ (l : List ℕ). said-in (words-in l)) (text ∙ doors.report-turned sheet why (one-applies (sheet-checks sheet) why (sym (reading-answer sheet) ∙ e)))
+          ap (λ (l : List ℕ). said-in (words-in l)) (text ∙ entries.report-turned sheet why (one-applies (sheet-checks sheet) why (sym (reading-answer sheet) ∙ e)))
           ∙ refusing (policy-of sheet) (tasks-of sheet) why,
       λ a number e.
-          let (sound, whole) = doors.reports sheet a in
+          let (sound, whole) = entries.reports sheet a in
           not-refusing (policy-of sheet) (tasks-of sheet) sound number (ap (λ (l : List ℕ). said-in (words-in l)) (sym (text ∙ whole)) ∙ e),
     )
 
 -- ---- Demand 1: a refused call changes nothing
 
 pub analyse-set-refused : (set : TaskSet) (before after : List ℕ) (why : Refusal) → AnalyseSet set before (Refused why) after → after ≡ before
-analyse-set-refused set before after why c = c .leaves ∙ doors.set-unchanged why set before (sym (c .answers))
+analyse-set-refused set before after why c = c .leaves ∙ entries.set-unchanged why set before (sym (c .answers))
 
 pub analyse-sheet-refused : (sheet before after : List ℕ) (why : Refusal) → AnalyseSheet sheet before (Refused why) after → after ≡ before
-analyse-sheet-refused sheet before after why c = c .leaves ∙ doors.sheet-unchanged why sheet before (sym (c .answers))
+analyse-sheet-refused sheet before after why c = c .leaves ∙ entries.sheet-unchanged why sheet before (sym (c .answers))
 
 pub analyse-list-refused : (policy : ℕ) (list : List Record) (before after : List ℕ) (why : Refusal)
     → AnalyseList policy list before (Refused why) after → after ≡ before
-analyse-list-refused policy list before after why c = c .leaves ∙ doors.list-unchanged why policy list before (sym (c .answers))
+analyse-list-refused policy list before after why c = c .leaves ∙ entries.list-unchanged why policy list before (sym (c .answers))
 
 pub read-list-refused : (sheet : List ℕ) (before after : List Record) (why : Refusal) → ReadList sheet before (not-read why) after → after ≡ before
-read-list-refused sheet before after why c = c .leaves ∙ doors.read-unchanged why sheet before (sym (c .answers))
+read-list-refused sheet before after why c = c .leaves ∙ entries.read-unchanged why sheet before (sym (c .answers))
 
 pub write-list-refused : (policy : ℕ) (list : List Record) (before after : List ℕ) (why : Refusal)
     → WriteList policy list before (not-written why) after → after ≡ before
-write-list-refused policy list before after why c = c .leaves ∙ doors.write-unchanged why policy list before (sym (c .answers))
+write-list-refused policy list before after why c = c .leaves ∙ entries.write-unchanged why policy list before (sym (c .answers))
 
 pub check-sheet-c-refused : (sheet before after : List ℕ) (number : ℕ) → 1 ≤ number → number ≤ 12
     → CheckSheetC sheet before number after → after ≡ before
 check-sheet-c-refused sheet before after number l h c =
-    let (outcome, same, a) = doors.check-door sheet before in
+    let (outcome, same, a) = entries.check-entry sheet before in
     let e = c .answers ∙ same in
     c .leaves ∙ number-refused a (rw e at l) (rw e at h)
 
@@ -217,47 +217,47 @@ module _ (sheet changed : List ℕ) (admitted : reading sheet .answer ≡ Admitt
   pub analyse-sheet-damaged : (before after : List ℕ) (answer : Outcome) → AnalyseSheet changed before answer after
       → (answer ≡ Refused CheckWord) × (after ≡ before)
   analyse-sheet-damaged before after answer c =
-      let t = doors.sheet-turned changed CheckWord (damage.damaged-is-2 sheet changed admitted damaged) before in
+      let t = entries.sheet-turned changed CheckWord (damage.damaged-is-2 sheet changed admitted damaged) before in
       (c .answers ∙ t .0, c .leaves ∙ t .1)
 
   pub check-sheet-c-damaged : (before after : List ℕ) (number : ℕ) → CheckSheetC changed before number after
       → (number ≡ 2) × (after ≡ before)
   check-sheet-c-damaged before after number c =
-      let t = doors.check-turned changed CheckWord (damage.damaged-is-2 sheet changed admitted damaged) before in
+      let t = entries.check-turned changed CheckWord (damage.damaged-is-2 sheet changed admitted damaged) before in
       (c .answers ∙ t .0, c .leaves ∙ t .1)
 
   pub read-list-damaged : (before after : List Record) (answer : ListRead) → ReadList changed before answer after
       → (answer ≡ not-read CheckWord) × (after ≡ before)
   read-list-damaged before after answer c =
-      let t = doors.read-turned changed CheckWord (damage.damaged-is-2 sheet changed admitted damaged) before in
+      let t = entries.read-turned changed CheckWord (damage.damaged-is-2 sheet changed admitted damaged) before in
       (c .answers ∙ t .0, c .leaves ∙ t .1)
 
   pub read-list-c-damaged : (before after : List Record) (number : ℕ) → ReadListC changed before number after
-      → (read-by number ≡ not-read CheckWord) × (after ≡ before)
-  read-list-c-damaged before after number c = read-list-damaged before after (read-by number) (read-list-c-says changed before after number c)
+      → (list-read-by number ≡ not-read CheckWord) × (after ≡ before)
+  read-list-c-damaged before after number c = read-list-damaged before after (list-read-by number) (read-list-c-says changed before after number c)
 
   pub report-text-damaged : (answer : Text) → ReportText changed answer → text-in answer ≡ line (refused-word ∷ decimal 2 ∷ [])
   unfolding first-line
   report-text-damaged answer c =
-      ap text-in (c .answers) ∙ text-back (report changed) ∙ doors.report-turned changed CheckWord (damage.damaged-is-2 sheet changed admitted damaged)
+      ap text-in (c .answers) ∙ text-back (report changed) ∙ entries.report-turned changed CheckWord (damage.damaged-is-2 sheet changed admitted damaged)
 
 -- ---- Demand 2, of lists
 
--- What `read_list` leaves where it answers with a policy and a count: a record of each task of the sheet, 0 in frame places past its count.
+-- What `read_list` leaves where it answers with a policy and a count: a record of each task of the sheet, 0 in frame slots past its count.
 pub read-list-fills : (sheet : List ℕ) (before after : List Record) (policy n : ℕ)
     → ReadList sheet before (Set policy n) after
     → (reading sheet .answer ≡ Admitted) × (policy ≡ policy-of sheet) × (take n after ≡ map record-of (tasks-of sheet))
 read-list-fills sheet before after policy n r =
-    trip.read-records sheet before after policy n (Set policy n) refl (subst₂ (doors.Read sheet before) (sym (r .answers)) (sym (r .leaves)) (doors.read-door sheet before))
+    trip.read-records sheet before after policy n (Set policy n) refl (subst₂ (entries.Read sheet before) (sym (r .answers)) (sym (r .leaves)) (entries.read-entry sheet before))
 
 -- What `write_list` leaves where it answers with a number of bytes: the sheet of the policy and the tasks.
 pub write-list-writes : (policy : ℕ) (list : List Record) (before after : List ℕ) (n : ℕ)
     → WriteList policy list before (Bytes n) after
     → take n after ≡ sheet-of policy (map task-in list)
 write-list-writes policy list before after n w =
-    trip.written-sheet policy list before after n (Bytes n) refl (subst₂ (doors.Wrote policy list before) (sym (w .answers)) (sym (w .leaves)) (doors.write-door policy list before)) .1
+    trip.written-sheet policy list before after n (Bytes n) refl (subst₂ (entries.Wrote policy list before) (sym (w .answers)) (sym (w .leaves)) (entries.write-entry policy list before)) .1
 
--- `write_list`, then `read_list` of the bytes written into a list that is long enough: the same policy and the same tasks over the places in use.
+-- `write_list`, then `read_list` of the bytes written into a list that is long enough: the same policy and the same tasks over the slots in use.
 pub write-then-read-list : (policy : ℕ) (list before after : List Record) (room written : List ℕ) (n : ℕ) (answer : ListRead)
     → WriteList policy list room (Bytes n) written
     → length list ≤ length before
@@ -266,7 +266,7 @@ pub write-then-read-list : (policy : ℕ) (list before after : List Record) (roo
     × (map task-in (take (length list) after) ≡ map task-in list)
     × (drop (length list) after ≡ drop (length list) before)
 write-then-read-list policy list before after room written n answer w fits r =
-    let (sound, same) = trip.written-sheet policy list room written n (Bytes n) refl (subst₂ (doors.Wrote policy list room) (sym (w .answers)) (sym (w .leaves)) (doors.write-door policy list room)) in
+    let (sound, same) = trip.written-sheet policy list room written n (Bytes n) refl (subst₂ (entries.Wrote policy list room) (sym (w .answers)) (sym (w .leaves)) (entries.write-entry policy list room)) in
     let (said, tasks, rest) = trip.read-back policy list before sound fits in (
       r .answers ∙ ap (λ (s : List ℕ). list-read s before) same ∙ said,
       ap (λ (l : List Record). map task-in (take (length list) l)) (r .leaves ∙ ap (λ (s : List ℕ). list-filled s before) same) ∙ tasks,
@@ -283,7 +283,7 @@ pub read-then-write-list : (sheet room written : List ℕ) (before after : List 
     × (drop (length sheet) written ≡ drop (length sheet) room)
 unfolding laid
 read-then-write-list sheet room written before after policy n answer byte r fits w =
-    let (admitted, p, records) = trip.read-records sheet before after policy n (Set policy n) refl (subst₂ (doors.Read sheet before) (sym (r .answers)) (sym (r .leaves)) (doors.read-door sheet before)) in
+    let (admitted, p, records) = trip.read-records sheet before after policy n (Set policy n) refl (subst₂ (entries.Read sheet before) (sym (r .answers)) (sym (r .leaves)) (entries.read-entry sheet before)) in
     let (said, left) = trip.write-back sheet room byte admitted fits in
     let whole = w .leaves ∙ ap₂ (λ (q : ℕ) (l : List Record). list-left q l room) p records ∙ left in (
       w .answers ∙ ap₂ (λ (q : ℕ) (l : List Record). list-written q l room) p records ∙ said,
@@ -293,25 +293,25 @@ read-then-write-list sheet room written before after policy n answer byte r fits
 
 -- The same through C.
 pub write-then-read-list-c : (policy : ℕ) (list before after : List Record) (room written : List ℕ) (n number answer : ℕ)
-    → WriteListC policy list room number written → written-by number ≡ Bytes n
+    → WriteListC policy list room number written → list-written-by number ≡ Bytes n
     → length list ≤ length before
     → ReadListC (take n written) before answer after
-    → (read-by answer ≡ Set policy (length list))
+    → (list-read-by answer ≡ Set policy (length list))
     × (map task-in (take (length list) after) ≡ map task-in list)
     × (drop (length list) after ≡ drop (length list) before)
 write-then-read-list-c policy list before after room written n number answer w e fits r =
-    write-then-read-list policy list before after room written n (read-by answer)
+    write-then-read-list policy list before after room written n (list-read-by answer)
     (rw e at (write-list-c-says policy list room written number w)) fits (read-list-c-says (take n written) before after answer r)
 
 pub read-then-write-list-c : (sheet room written : List ℕ) (before after : List Record) (policy n number answer : ℕ) → IsBytes sheet
-    → ReadListC sheet before number after → read-by number ≡ Set policy n
+    → ReadListC sheet before number after → list-read-by number ≡ Set policy n
     → length sheet ≤ length room
     → WriteListC policy (take n after) room answer written
-    → (written-by answer ≡ Bytes (length sheet))
+    → (list-written-by answer ≡ Bytes (length sheet))
     × (take (length sheet) written ≡ sheet)
     × (drop (length sheet) written ≡ drop (length sheet) room)
 read-then-write-list-c sheet room written before after policy n number answer byte r e fits w =
-    read-then-write-list sheet room written before after policy n (written-by answer) byte
+    read-then-write-list sheet room written before after policy n (list-written-by answer) byte
     (rw e at (read-list-c-says sheet before after number r)) fits (write-list-c-says policy (take n after) room written answer w)
 
 -- ---- Demand 3: a time that is written is a time
@@ -326,40 +326,40 @@ no-worst-time-is-zero policy tasks i k w = omega (arith, w .least .positive)
 pub analyse-set-signed : (set : TaskSet) (before after : List ℕ) (answer : Outcome) → length (set .tasks) ≡ most-tasks
     → AnalyseSet set before answer after
     → Signed (set .policy) (map task-in (records-of set)) in-numbers before after (said answer)
-analyse-set-signed set before after answer sixteen c = rw (c .answers, c .leaves) (promised (doors.set-door set before sixteen))
+analyse-set-signed set before after answer sixteen c = rw (c .answers, c .leaves) (promised (entries.set-entry set before sixteen))
 
 -- `analyse_sheet`
 pub analyse-sheet-signed : (sheet before after : List ℕ) (answer : Outcome)
     → AnalyseSheet sheet before answer after
     → Signed (policy-of sheet) (tasks-of sheet) in-numbers before after (said answer)
-analyse-sheet-signed sheet before after answer c = rw (c .answers, c .leaves) (promised (doors.sheet-door sheet before))
+analyse-sheet-signed sheet before after answer c = rw (c .answers, c .leaves) (promised (entries.sheet-entry sheet before))
 
 -- `analyse_list`
 pub analyse-list-signed : (policy : ℕ) (list : List Record) (before after : List ℕ) (answer : Outcome)
     → AnalyseList policy list before answer after
     → Signed policy (map task-in list) in-numbers before after (said answer)
-analyse-list-signed policy list before after answer c = rw (c .answers, c .leaves) (promised (doors.list-door policy list before))
+analyse-list-signed policy list before after answer c = rw (c .answers, c .leaves) (promised (entries.list-entry policy list before))
 
 -- `burrbeech_check_sheet`: what its number says, and the times in four bytes each
 pub check-sheet-c-signed : (sheet before after : List ℕ) (number : ℕ)
     → CheckSheetC sheet before number after
     → Signed (policy-of sheet) (tasks-of sheet) in-bytes before after (said-by number)
 check-sheet-c-signed sheet before after number c =
-    let (outcome, same, a) = doors.check-door sheet before in
+    let (outcome, same, a) = entries.check-entry sheet before in
     rw (c .answers ∙ same, c .leaves, said-back outcome (few-of a)) (promised a)
 
 pub analyse-list-c-signed : (policy : ℕ) (list : List Record) (before after : List ℕ) (number : ℕ)
     → AnalyseListC policy list before number after
-    → Signed policy (map task-in list) in-numbers before after (said (outcome-by number))
+    → Signed policy (map task-in list) in-numbers before after (said (list-outcome-by number))
 analyse-list-c-signed policy list before after number c =
-    analyse-list-signed policy list before after (outcome-by number) (analyse-list-c-says policy list before after number c)
+    analyse-list-signed policy list before after (list-outcome-by number) (analyse-list-c-says policy list before after number c)
 
 -- `report_text`: what the first line says, and the line of each task
 pub report-text-signed : (sheet : List ℕ) (answer : Text)
     → ReportText sheet answer
     → ReportSigned (policy-of sheet) (tasks-of sheet) (text-in answer) (said-in (words-in (text-in answer)))
 report-text-signed sheet answer c =
-    rw (ap text-in (c .answers) ∙ text-back (report sheet)) (report-promised (policy-of sheet) (tasks-of sheet) (report sheet) (doors.report-door sheet))
+    rw (ap text-in (c .answers) ∙ text-back (report sheet)) (report-promised (policy-of sheet) (tasks-of sheet) (report sheet) (entries.report-entry sheet))
 
 -- ---- For the same input a second conforming call answers and leaves the same
 

@@ -48,12 +48,12 @@ said (Refused why) = refused (number-of why)
 pub data Kept : Type 0 where
   in-numbers in-bytes : Kept
 
--- how many places of the memory one time takes
+-- how many elements of the memory one slot takes
 abbrev pub size : Kept → ℕ
 size in-numbers = 1
 size in-bytes = 4
 
--- the time at place j of the memory; of four bytes the high byte stands first
+-- the time in slot j of the memory; of four bytes the high byte stands first
 unfoldable pub time-in : Kept → List ℕ → ℕ → ℕ
 time-in in-numbers memory j = getD memory j 0
 time-in in-bytes memory j =
@@ -78,12 +78,12 @@ pub record WorstTime (policy : ℕ) (tasks : List Task) (i k t : ℕ) : Type 0 w
   -- in some run a job of that frame takes exactly so long
   pub reached : (run : Run) × (r : ℕ) × RunOf policy tasks run × TaskTakes policy tasks run i r k t
 
--- Task i has its times: of its eight places each one with a frame holds that frame's worst time, the others 0.
+-- Task i has its times: of its eight slots each one with a frame holds that frame's worst time, the others 0.
 pub record Timed (policy : ℕ) (tasks : List Task) (time : ℕ → ℕ) (i : ℕ) : Type 0 where
   pub worst : (k : ℕ) → k < frame-count (task-at tasks i) → WorstTime policy tasks i k (time (most-frames * i + k))
   pub no-frame : (k : ℕ) → frame-count (task-at tasks i) ≤ k → k < most-frames → time (most-frames * i + k) ≡ 0
 
--- Task i has none: its eight places hold 0, and it misses in some run.
+-- Task i has none: its eight slots hold 0, and it misses in some run.
 pub record Untimed (policy : ℕ) (tasks : List Task) (time : ℕ → ℕ) (i : ℕ) : Type 0 where
   pub zeros : (k : ℕ) → k < most-frames → time (most-frames * i + k) ≡ 0
   pub misses : SomeMiss policy tasks i
@@ -123,7 +123,7 @@ Signed policy tasks kept before after (refused number) = (1 ≤ number) × (numb
 
 -- ---- demand 1
 
--- The one refusal of a call: that of its input, or else 12 where the lent memory has fewer places than are needed, or else none.
+-- The one refusal of a call: that of its input, or else 12 where the lent memory has fewer elements than are needed, or else none.
 unfoldable pub refusal-to : Answer → (needs has : ℕ) → Option Refusal
 refusal-to (turned why) needs has = some why
 refusal-to Admitted needs has = cond (ltb has needs) (some Room) none

@@ -49,18 +49,18 @@ unfoldable pub refused-by : ℕ → Refusal
 refused-by c = refusal-by (c % above-refusals) (c / above-refusals)
 
 -- `burrbeech_read_list`: the policy, and above it the task count
-unfoldable pub read-by : ℕ → ListRead
-read-by c =
+unfoldable pub list-read-by : ℕ → ListRead
+list-read-by c =
     let detail = c / above-refusals in
     cond (eqb (c % above-refusals) 0) (Set (detail % above-policies) (detail / above-policies)) (not-read (refused-by c))
 
 -- `burrbeech_write_list`: the bytes written
-unfoldable pub written-by : ℕ → Written
-written-by c = cond (eqb (c % above-refusals) 0) (Bytes (c / above-refusals)) (not-written (refused-by c))
+unfoldable pub list-written-by : ℕ → Written
+list-written-by c = cond (eqb (c % above-refusals) 0) (Bytes (c / above-refusals)) (not-written (refused-by c))
 
 -- `burrbeech_analyse_list`: 0 for holds, else 100 + 17p + b
 unfoldable pub verdict-by : ℕ → Outcome
 verdict-by m = cond (eqb m 0) Holds (Missed ((m - first-miss) / blockers) (blocker-by ((m - first-miss) % blockers)))
 
-unfoldable pub outcome-by : ℕ → Outcome
-outcome-by c = cond (eqb (c % above-refusals) 0) (verdict-by (c / above-refusals)) (not-analysed (refused-by c))
+unfoldable pub list-outcome-by : ℕ → Outcome
+list-outcome-by c = cond (eqb (c % above-refusals) 0) (verdict-by (c / above-refusals)) (not-analysed (refused-by c))

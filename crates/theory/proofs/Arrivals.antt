@@ -33,9 +33,9 @@ arrived-suc run q t = refl
 -- the releases of one lane from time a on, when the lane's next frame was k, and n jobs have been released by time t
 pub record Since (task : Task) (a k n t : ℕ) (l : Lane) : Type 0 where
   pub next-is : l .next ≡ (k + n) % frame-count task
-  -- the next release is not before its place in the row a, a + T, ..
+  -- the next release is not before its turn in the row a, a + T, ..
   pub spaced : 1 ≤ n → a + n * task .period ≤ l .free-from
-  -- each of the n was released before t, and not before its place in the row
+  -- each of the n was released before t, and not before its turn in the row
   pub recent : (j : ℕ) → j < n → a + j * task .period < t
   pub unfinished : Unfinished (λ r f. (j : ℕ) × (j < n) × (f ≡ (k + j) % frame-count task) × (a + j * task .period ≤ r)) (l .jobs)
 
@@ -52,9 +52,9 @@ since-serve b l s =
       unfinished = unfinished-serve _ b l (s .unfinished);
     }
 
--- a release stands at or after its place in the row
-in-place : {task : Task} {a k n t : ℕ} {l : Lane} → Since task a k n t l → a ≤ t → l .free-from ≤ t → a + n * task .period ≤ t
-in-place {task} {a} {n = n} {t = t} {l = l} s h free = go n (s .spaced)
+-- a release stands at or after its turn in the row
+in-its-turn : {task : Task} {a k n t : ℕ} {l : Lane} → Since task a k n t l → a ≤ t → l .free-from ≤ t → a + n * task .period ≤ t
+in-its-turn {task} {a} {n = n} {t = t} {l = l} s h free = go n (s .spaced)
   where
     go : (m : ℕ) → (1 ≤ m → a + m * task .period ≤ l .free-from) → a + m * task .period ≤ t
     go zero sp = rw (zero-mul (task .period)) (omega arith)
@@ -65,8 +65,8 @@ unfolding release-lane
 since-some {task} {a} {k} {n} {t} {l} w s h free =
     record {
       next-is = next-frame-after task k n (s .next-is);
-      spaced = λ _. omega (arith, suc-mul n (task .period), in-place s h free);
-      recent = λ j u. omega (arith, mul-le-mul-right {m = j} {n = n} (task .period) (omega arith), in-place s h free);
+      spaced = λ _. omega (arith, suc-mul n (task .period), in-its-turn s h free);
+      recent = λ j u. omega (arith, mul-le-mul-right {m = j} {n = n} (task .period) (omega arith), in-its-turn s h free);
       unfinished = λ r f v m. go r f (release-mem task t (some w) l m) (s .unfinished r f v);
     }
   where
@@ -74,11 +74,11 @@ since-some {task} {a} {k} {n} {t} {l} w s h free =
         → (List·Memᴰ (job r f (suc v)) (l .jobs) → (j : ℕ) × (j < n) × (f ≡ (k + j) % frame-count task) × (a + j * task .period ≤ r))
         → (j : ℕ) × (j < suc n) × (f ≡ (k + j) % frame-count task) × (a + j * task .period ≤ r)
     go r f (inl m) before = let (j, u, e, p) = before m in (j, omega arith, e, p)
-    go r f (inr (now, next, _)) before = (n, omega arith, next ∙ s .next-is, omega (arith, in-place s h free))
+    go r f (inr (now, next, _)) before = (n, omega arith, next ∙ s .next-is, omega (arith, in-its-turn s h free))
 
 -- ---- in a legal run
 
--- n jobs of the task at place q have been released from time a up to time t: their places and frames, and their work
+-- n jobs of the task at place q have been released from time a up to time t: their turns and frames, and their work
 pub record Released (set : List Task) (run : Run) (q a t n : ℕ) : Type 0 where
   pub since : Since (task-at set q) a (state-at set run a .lanes q .next) n t (state-at set run t .lanes q)
   pub work-at-most : arrived run q t ≤ arrived run q a + work (task-at set q) (state-at set run a .lanes q .next) n

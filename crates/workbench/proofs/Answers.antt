@@ -61,9 +61,9 @@ module _ (s room : List ℕ) where
   abbrev n : ℕ
   n = length (tasks-of s)
 
-  -- the places that an admitted sheet asks for
-  places : decided (sheet-checks s) ≡ Admitted → length (four-bytes (times-of (policy-of s) (tasks-of s))) ≡ task-size * n
-  places e =
+  -- the bytes that an admitted sheet asks for
+  slots : decided (sheet-checks s) ≡ Admitted → length (four-bytes (times-of (policy-of s) (tasks-of s))) ≡ task-size * n
+  slots e =
       length-four (times-of (policy-of s) (tasks-of s))
       ∙ omega (arith, times-long (policy-of s) (tasks-of s) (by-reading s (reading-answer s ∙ e) .counted))
 
@@ -72,14 +72,14 @@ module _ (s room : List ℕ) where
       × (laid (four-bytes (times-by-number (analysis-by a (policy-of s) (tasks-of s)))) room ≡ entry-left s room)
   unfolding entry-number entry-left checking analysis-by refused-analysis times-by-number in-turn four-bytes laid
   done-by Admitted e h =
-      let d = done-tells Room number-of (checking s) room (all-done Room number-of (checking s) room (none-applies (sheet-checks s) e) (rw (places e) h)) in
+      let d = done-tells Room number-of (checking s) room (all-done Room number-of (checking s) room (none-applies (sheet-checks s) e) (rw (slots e) h)) in
       (d .0, ap (λ (l : List ℕ). laid (four-bytes l) room) (by-number-is (policy-of s) (tasks-of s)) ∙ d .1)
   done-by (refused r) e h = turned-tells Room number-of (checking s) room (by-checks Room number-of (checking s) room r (one-applies (sheet-checks s) r e))
 
   short-by : (a : Answer) → decided (sheet-checks s) ≡ a → length room < task-size * analysis-by a (policy-of s) (tasks-of s) .«task_count»
       → (12 ≡ entry-number s room) × (room ≡ entry-left s room)
   unfolding analysis-by refused-analysis entry-number entry-left checking
-  short-by Admitted e h = turned-tells Room number-of (checking s) room (by-room Room number-of (checking s) room (none-applies (sheet-checks s) e) (rw (places e) h))
+  short-by Admitted e h = turned-tells Room number-of (checking s) room (by-room Room number-of (checking s) room (none-applies (sheet-checks s) e) (rw (slots e) h))
   short-by (refused r) e h = let z : ⊥ = omega arith in absurd z
 
   small-by : (a : Answer) → decided (sheet-checks s) ≡ a → code (analysis-by a (policy-of s) (tasks-of s) .outcome) < 1000

@@ -13,7 +13,7 @@ use Rattle.bits.proofs.Laws.{length-bytes}
 use Rattle.bits.proofs.Numbers.{byte-of}
 use Rattle.lent.specs.Lent.{laid}
 use Rattle.sheet.specs.Constants.{most-frames}
-use Rattle.analysis.specs.Findings.{found, in-turn, times-by-number}
+use Rattle.analysis.specs.Findings.{finding-in, in-turn, times-by-number}
 use Rattle.analysis.specs.Inside.Numbered.{Numbered}
 use Rattle.analysis.specs.declared.Analysis.{Analysis}
 use Rattle.analysis.proofs.ByNumber.{Stands, stands-more, all-stand}
@@ -57,7 +57,7 @@ unfolding four-bytes
 four-append [] ys = refl
 four-append (x ∷ xs) ys = ap (λ (l : List ℕ). bytes-of 4 (digits 32 x) ++ l) (four-append xs ys) ∙ sym (append-assoc (bytes-of 4 (digits 32 x)) (four-bytes xs) (four-bytes ys))
 
--- the times of one task put from a place on, one after another
+-- the times of one task put from a position on, one after another
 module _ (d : List ℕ) (at : ℕ) (xs : List ℕ) where
   -- the first i of them
   pub fours : ℕ → List ℕ
@@ -98,16 +98,16 @@ four-in-turn row i (suc n) = ap (λ (l : List ℕ). four-bytes (row i) ++ l) (fo
 
 -- after p places their times stand at their numbers
 abbrev pub AtNumbers : Analysis → List ℕ → List ℕ → ℕ → Type 0
-AtNumbers a = Stands 0 task-size (a .«task_count») (λ p. found a p .number) (λ p. four-bytes (found a p .times))
+AtNumbers a = Stands 0 task-size (a .«task_count») (λ p. finding-in a p .number) (λ p. four-bytes (finding-in a p .times))
 
 module _ (a : Analysis) (h : Numbered a) (room : List ℕ) (enough : task-size * a .«task_count» ≤ length room) where
-  wide : (p : ℕ) → p < a .«task_count» → length (four-bytes (found a p .times)) ≡ task-size
-  wide p l = length-four (found a p .times) ∙ ap (λ (k : ℕ). 4 * k) (h .eight p l)
+  wide : (p : ℕ) → p < a .«task_count» → length (four-bytes (finding-in a p .times)) ≡ task-size
+  wide p l = length-four (finding-in a p .times) ∙ ap (λ (k : ℕ). 4 * k) (h .eight p l)
 
   pub numbers-more : (now : List ℕ) (p : ℕ) → p < a .«task_count» → AtNumbers a room now p
-      → AtNumbers a room (take (task-size * found a p .number) now ++ four-bytes (found a p .times) ++ drop (task-size * found a p .number + task-size) now) (p + 1)
+      → AtNumbers a room (take (task-size * finding-in a p .number) now ++ four-bytes (finding-in a p .times) ++ drop (task-size * finding-in a p .number + task-size) now) (p + 1)
   numbers-more now p l s =
-      stands-more 0 task-size (a .«task_count») (λ p. found a p .number) (λ p. four-bytes (found a p .times)) (number-below a h) (numbers-apart a h) wide room enough now p l s
+      stands-more 0 task-size (a .«task_count») (λ p. finding-in a p .number) (λ p. four-bytes (finding-in a p .times)) (number-below a h) (numbers-apart a h) wide room enough now p l s
 
   four-long : length (four-bytes (times-by-number a)) ≡ task-size * a .«task_count»
   four-long = length-four (times-by-number a) ∙ omega (arith, by-number-length a h)
@@ -115,7 +115,7 @@ module _ (a : Analysis) (h : Numbered a) (room : List ℕ) (enough : task-size *
   pub all-numbers : (now : List ℕ) → AtNumbers a room now (a .«task_count») → now ≡ laid (four-bytes (times-by-number a)) room
   unfolding laid times-by-number
   all-numbers now s =
-      all-stand 0 task-size (a .«task_count») (λ p. found a p .number) (λ p. four-bytes (found a p .times)) (number-below a h) (numbers-apart a h) wide room enough
+      all-stand 0 task-size (a .«task_count») (λ p. finding-in a p .number) (λ p. four-bytes (finding-in a p .times)) (number-below a h) (numbers-apart a h) wide room enough
       (place-found a h) (place-found-in a h) (number-found-back a h) now s
-      ∙ ap (λ (l : List ℕ). l ++ drop (task-size * a .«task_count») room) (four-in-turn (λ i. found a (place-found a h i) .times) 0 (a .«task_count»))
+      ∙ ap (λ (l : List ℕ). l ++ drop (task-size * a .«task_count») room) (four-in-turn (λ i. finding-in a (place-found a h i) .times) 0 (a .«task_count»))
       ∙ ap (λ (m : ℕ). four-bytes (times-by-number a) ++ drop m room) (sym four-long)

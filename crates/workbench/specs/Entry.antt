@@ -36,6 +36,6 @@ checking s =
 unfoldable pub entry-number : List ℕ → List ℕ → ℕ
 entry-number s room = answered Room number-of (checking s) room
 
--- what its place for the times holds afterwards
+-- what its room for the times holds afterwards
 unfoldable pub entry-left : List ℕ → List ℕ → List ℕ
 entry-left s room = left-after Room (checking s) room

@@ -1,2 +1,2 @@
--- The C entry: what the workbench gets, and what its place for response times holds.
+-- The C entry: what the workbench gets, and what its room for response times holds.
 pub mod Entry

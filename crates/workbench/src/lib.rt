@@ -17,7 +17,7 @@ const TIME_SIZE: usize = 4;
 
 const TASK_SIZE: usize = TIME_SIZE * Sheet::FRAME_ROOM;
 
-// A number in four bytes from a place on, high byte first.
+// A number in four bytes from a position on, high byte first.
 fn put_four(bytes: &mut [u8], at: usize, n: u32)
     requires { ⌜ at + time-size ≤ length (now bytes) ⌝ }
     ensures { λ _. ⌜ now (bytes .exit) ≡ take at (now (bytes .entry)) ++ bytes-of time-size (digits 32 n) ++ drop (at + time-size) (now (bytes .entry)) ⌝ }
@@ -29,7 +29,7 @@ fn put_four(bytes: &mut [u8], at: usize, n: u32)
 }
 
 // The times of a task, four bytes each.
-fn put_task(bytes: &mut [u8], at: usize, times: [u32; Sheet::FRAME_ROOM])
+fn put_task_times(bytes: &mut [u8], at: usize, times: [u32; Sheet::FRAME_ROOM])
     requires { ⌜ at + task-size ≤ length (now bytes) ⌝ }
     ensures { λ _. ⌜ now (bytes .exit) ≡ take at (now (bytes .entry)) ++ four-bytes times ++ drop (at + task-size) (now (bytes .entry)) ⌝ }
 {
@@ -47,7 +47,7 @@ fn put_times(a: Analysis, bytes: &mut [u8])
     for p in 0..count {
         let found = a.findings[p];
         let times = found.times;
-        put_task(bytes, TASK_SIZE * (found.number as usize), times);
+        put_task_times(bytes, TASK_SIZE * (found.number as usize), times);
     }
 }
 

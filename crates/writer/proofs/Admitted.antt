@@ -34,7 +34,7 @@ ranges-in k (r ∷ rs) e zero d h =
     and-eq-true-iff (in-range (task-in r)) (well-formed (task-in r)) .0 (not-false (in-range (task-in r) && well-formed (task-in r)) (passed _ _ e .0)) .0
 ranges-in k (r ∷ rs) e (suc i) d h = ranges-in (suc k) rs (passed _ _ (passed _ _ (passed _ _ e .1) .1) .1) i d (omega arith)
 
--- an admitted set, whose array has its sixteen places
+-- an admitted set, whose array has its sixteen slots
 module _ (s : TaskSet) (e : admission s ≡ Admitted) (long : length (s .tasks) ≡ most-tasks) where
   pub policy-in : s .policy ≤ deadline-monotonic
   policy-in = known-small (s .policy) (by-admission s long e .policy-known)

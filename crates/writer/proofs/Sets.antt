@@ -7,7 +7,7 @@ use native.Mathlib.Numerals.{add-one}
 use native.Mathlib.Omega.{arith}
 use lib.ListN.{length, getD, take, length-append}
 use Rattle.records.specs.Rows.{total}
-use Rattle.records.specs.Sealed.{record-size}
+use Rattle.records.specs.Sealed.{sealed-size}
 use Rattle.records.proofs.Filling.{length-record}
 use Rattle.sheet.specs.Constants.{most-tasks, greatest-size}
 use Rattle.sheet.specs.Fields.{header-widths}
@@ -58,12 +58,12 @@ records-part (r ∷ rs) (suc i) (suc n) d h l =
 
 -- ---- the sheet's length
 
-pub size-is : (s : TaskSet) → length (sheet-bytes s) ≡ record-size (total header-widths + length (records-bits (records-of s)))
+pub size-is : (s : TaskSet) → length (sheet-bytes s) ≡ sealed-size (total header-widths + length (records-bits (records-of s)))
 unfolding sheet-bytes sheet-of records-bits
 size-is s =
     let h = header-bits (s .policy) (length (map task-in (records-of s))) in
     let r = records-bits (records-of s) in
-    length-record (h ++ r) ∙ ap record-size (length-append h r ∙ ap (λ (k : ℕ). k + length r) (length-header _ _))
+    length-record (h ++ r) ∙ ap sealed-size (length-append h r ∙ ap (λ (k : ℕ). k + length r) (length-header _ _))
 
 module _ (s : TaskSet) (e : admission s ≡ Admitted) (long : length (s .tasks) ≡ most-tasks) where
   pub size-most : length (sheet-bytes s) ≤ greatest-size

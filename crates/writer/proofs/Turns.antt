@@ -14,7 +14,7 @@ use Rattle.sheet.specs.declared.Task.{Task as Record}
 use Rattle.sheet.specs.declared.TaskSet.{TaskSet}
 use Rattle.sheet.specs.declared.Answer.the-variants.{Admitted}
 use Rattle.records.specs.Rows.{total}
-use Rattle.records.specs.Sealed.{record-size}
+use Rattle.records.specs.Sealed.{sealed-size}
 use Rattle.records.specs.Faces.{end-of, width-of}
 use Rattle.records.specs.Inside.Steps.{Placed}
 use Rattle.records.proofs.Placing.{placed-none, placed-behind}
@@ -22,7 +22,7 @@ use Rattle.records.proofs.Putting.{room-behind}
 use Rattle.writer.proofs.Admitted.{Puttable, puttable, tasks-in}
 use Rattle.writer.proofs.Sets.{records-bits, no-records, records-of-bits, record-more, records-part, bits-most, size-is}
 
--- an admitted set, whose array has its sixteen places
+-- an admitted set, whose array has its sixteen slots
 module _ (s : TaskSet) (e : admission s ≡ Admitted) (long : length (s .tasks) ≡ most-tasks) where
   pub in-use : s .«task_count» ≤ length (s .tasks)
   in-use = rw long (tasks-in s e long)
@@ -37,7 +37,7 @@ module _ (s : TaskSet) (e : admission s ≡ Admitted) (long : length (s .tasks) 
   unfolding records-of
   part-at i d h = records-part (s .tasks) i (s .«task_count») d h in-use
 
--- the first i records stand at their place
+-- the first i records stand where they belong
 pub record Stand (b : List ℕ) (at : ℕ) (s : TaskSet) (i : ℕ) (t : List ℕ) (next : ℕ) : Type 0 where
   pub put : Placed b at (records-bits (take i (s .tasks))) t next
   pub in-row : i ≤ s .«task_count»
@@ -99,5 +99,5 @@ module _ (s : TaskSet) {i bits : ℕ} (p : Counted s i bits) (h : s .«task_coun
   unfolding records-of
   counted-all = let e : i ≡ s .«task_count» = omega (arith, p .in-row) in rw (← e) (p .sum)
 
-  pub counted-size : record-size bits ≡ length (sheet-bytes s)
-  counted-size = ap record-size counted-all ∙ sym (size-is s)
+  pub counted-size : sealed-size bits ≡ length (sheet-bytes s)
+  counted-size = ap sealed-size counted-all ∙ sym (size-is s)

@@ -7,7 +7,7 @@ use native.Mathlib.Omega.{arith}
 use lib.Dec.{lit<}
 use lib.ListN.{length, length-append}
 use Rattle.records.specs.Rows.{packed}
-use Rattle.records.specs.Sealed.{sealed-record, record-size}
+use Rattle.records.specs.Sealed.{sealed-record, sealed-size}
 use Rattle.records.specs.Faces.{end-of, row-fits, closed}
 use Rattle.records.specs.Inside.Steps.{Placed}
 use Rattle.records.proofs.Filling.{length-record}
@@ -55,7 +55,7 @@ module _ (s : TaskSet) (e : admission s ≡ Admitted) (long : length (s .tasks) 
   unfolding sheet-bytes sheet-of
   sheet-rows = ap (λ (n : ℕ). sealed-record (header-bits (s .policy) n ++ tasks-bits (map task-in (records-of s)))) (sym (count-in-use s long e))
 
-  rows-size : length (sheet-bytes s) ≡ record-size (length (H ++ R))
+  rows-size : length (sheet-bytes s) ≡ sealed-size (length (H ++ R))
   rows-size = ap length (sym sheet-rows) ∙ length-record (H ++ R)
 
   -- the room that the parts find, one behind the other
@@ -76,4 +76,4 @@ module _ (s : TaskSet) (e : admission s ≡ Admitted) (long : length (s .tasks) 
           let all : Placed b 0 (H ++ R) u end = placed-behind H R (omega (arith, room)) p q in
           let same : length u ≡ length b = placed-long (rw (length-append H R) (omega (arith, room))) all in
           let at-end : length (H ++ R) ≡ end = omega (arith, all .behind) in
-          ev ∙ closed-is u end (H ++ R) (placed-first (H ++ R) all) (same ∙ exact ∙ rows-size ∙ ap record-size at-end) ∙ sheet-rows
+          ev ∙ closed-is u end (H ++ R) (placed-first (H ++ R) all) (same ∙ exact ∙ rows-size ∙ ap sealed-size at-end) ∙ sheet-rows

@@ -20,7 +20,7 @@ use sheet::Task;
 use sheet::TaskSet;
 use sheet::Written;
 
-// A row that fits goes to its place; the answer is the position behind it.
+// A row that fits is put in; the answer is the position behind it.
 fn put(bytes: &mut [u8], at: usize, widths: &[usize], numbers: &[u32]) -> usize
     requires { ⌜ row-fits (length (now bytes)) at (now widths) (now numbers) ≡ true ⌝ }
     ensures { λ r. ⌜ Placed (now (bytes .entry)) at (packed (now (widths .entry)) (now (numbers .entry))) (now (bytes .exit)) r ⌝ }
@@ -49,9 +49,9 @@ fn put_task(bytes: &mut [u8], at: usize, task: Task) -> usize
     let fixed = [task.period, task.deadline, task.lock, task.frame_count];
     let next = put(bytes, at, &widths, &fixed);
     let count = task.frame_count as usize;
-    let places = Sheet::frame_widths();
+    let per_frame = Sheet::frame_widths();
     let frames = task.frames;
-    put(bytes, next, &places[..count], &frames[..count])
+    put(bytes, next, &per_frame[..count], &frames[..count])
 }
 
 // The task records one after another.
@@ -76,8 +76,8 @@ fn task_width(task: Task) -> usize
     let widths = Sheet::fixed_widths();
     let fixed = records::width_of(&widths);
     let count = task.frame_count as usize;
-    let places = Sheet::frame_widths();
-    fixed + records::width_of(&places[..count])
+    let per_frame = Sheet::frame_widths();
+    fixed + records::width_of(&per_frame[..count])
 }
 
 // How many bytes the sheet of a set takes.
@@ -92,7 +92,7 @@ fn sheet_size(set: TaskSet) -> usize
         let task = set.tasks[i];
         bits += task_width(task);
     }
-    records::record_size(bits)
+    records::sealed_size(bits)
 }
 
 // The whole sheet into as many bytes as it has: header, task records, fill and check word.

@@ -134,14 +134,14 @@ pub fn analyse(set: &Set) -> Analysis {
 }
 
 impl Analysis {
-    /// Eight places per task, in task-number order; 0 without a frame and for a task that does not pass.
-    pub fn places(&self) -> Vec<u32> {
+    /// Eight slots per task, in task-number order; 0 without a frame and for a task that does not pass.
+    pub fn slots(&self) -> Vec<u32> {
         let eight = |answer: &Answer| {
-            let mut places = [0; MOST_FRAMES];
-            for (place, &time) in places.iter_mut().zip(answer.times.iter().flatten()) {
-                *place = time;
+            let mut slots = [0; MOST_FRAMES];
+            for (slot, &time) in slots.iter_mut().zip(answer.times.iter().flatten()) {
+                *slot = time;
             }
-            places
+            slots
         };
         self.answers.iter().flat_map(eight).collect()
     }
@@ -151,7 +151,7 @@ impl Analysis {
 fn analyse_into(set: &Set, times: &mut [u32]) -> Result<Verdict, Refusal> {
     let room = times.get_mut(..MOST_FRAMES * set.tasks.len()).ok_or(Refusal::Room)?;
     let analysis = analyse(set);
-    room.copy_from_slice(&analysis.places());
+    room.copy_from_slice(&analysis.slots());
     Ok(analysis.verdict)
 }
 
@@ -170,7 +170,7 @@ pub fn check_sheet(bytes: &[u8], times: &mut [u8]) -> u32 {
     let answer = sheet::read(bytes).and_then(|set| {
         let room = times.get_mut(..4 * MOST_FRAMES * set.tasks.len()).ok_or(Refusal::Room)?;
         let analysis = analyse(&set);
-        room.copy_from_slice(&analysis.places().iter().flat_map(|t| t.to_be_bytes()).collect::<Vec<u8>>());
+        room.copy_from_slice(&analysis.slots().iter().flat_map(|t| t.to_be_bytes()).collect::<Vec<u8>>());
         Ok(analysis.verdict)
     });
     answer.map_or_else(Refusal::number, Verdict::code)

@@ -489,7 +489,7 @@ pub fn damaged_lists(random: &mut Random, set: &Set) -> Vec<DamagedList> {
     damaged
 }
 
-/// The list with anything in the places that are not in use.
+/// The list with anything in the slots that are not in use.
 pub fn littered(random: &mut Random, mut list: Vec<Record>) -> Vec<Record> {
     for record in &mut list {
         let used = (record.frame_count as usize).min(MOST_FRAMES);

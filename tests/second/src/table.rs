@@ -53,8 +53,8 @@ fn record(words: &[&str]) -> Option<Record> {
     let numbers = words.iter().map(|w| w.parse().ok()).collect::<Option<Vec<u32>>>()?;
     let [period, deadline, lock, given @ ..] = numbers.as_slice() else { return None };
     let mut frames = [0; MOST_FRAMES];
-    for (place, &frame) in frames.iter_mut().zip(given) {
-        *place = frame;
+    for (slot, &frame) in frames.iter_mut().zip(given) {
+        *slot = frame;
     }
     Some(Record { period: *period, deadline: *deadline, lock: *lock, frame_count: given.len() as u32, frames })
 }

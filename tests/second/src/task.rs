@@ -23,7 +23,7 @@ pub struct Set {
     pub tasks: Vec<Task>,
 }
 
-/// A task as the workbench lends it; places past the count are not read.
+/// A task as the workbench lends it; slots past the count are not read.
 #[repr(C)]
 #[derive(Clone, Copy, Debug, PartialEq, Eq)]
 pub struct Record {
@@ -60,7 +60,7 @@ impl Task {
         start_frame(&self.frames).map(|_| ()).ok_or(Refusal::NotMonotonic(number))
     }
 
-    /// The record with 0 in the places that are not in use.
+    /// The record with 0 in the slots that are not in use.
     pub fn record(&self) -> Record {
         let mut frames = [0; MOST_FRAMES];
         frames[..self.frames.len()].copy_from_slice(&self.frames);

@@ -18,7 +18,7 @@ fn eight_each(times: &[Vec<u32>]) -> Vec<u32> {
     times.iter().flat_map(|t| t.iter().copied().chain([0; MOST_FRAMES]).take(MOST_FRAMES)).collect()
 }
 
-/// The answer by sheet, by list and by the C entry's double, with the order and every place.
+/// The answer by sheet, by list and by the C entry's double, with the order and every slot.
 fn compare(case: &Case) {
     let bytes = sheet::write(&case.set);
     let n = case.set.tasks.len();

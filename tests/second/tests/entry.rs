@@ -199,8 +199,8 @@ fn cases_a_to_m() {
             Expected::Holds(times) => (0, times),
             Expected::Missed { task, blocker, times } => (100 + 17 * task as u32 + blocker.unwrap_or(16) as u32, times),
         };
-        let places = times.iter().flat_map(|t| t.iter().copied().chain([0; MOST_FRAMES]).take(MOST_FRAMES));
-        let written = places.flat_map(u32::to_be_bytes);
+        let slots = times.iter().flat_map(|t| t.iter().copied().chain([0; MOST_FRAMES]).take(MOST_FRAMES));
+        let written = slots.flat_map(u32::to_be_bytes);
         let expected: Vec<u8> = written.chain([0xEE; TASK_BYTES * 3 + 1]).take(buffer.len()).collect();
         assert_eq!((answer, buffer.to_vec()), (number, expected), "{}", case.name);
     }

@@ -122,7 +122,7 @@ fn changed_bits_are_refused() {
     assert!(check_word::is_sealed(&sheet::write(&sets(18, 1).next().unwrap())));
 }
 
-/// Every room from none to one past the need, for each of the lent places.
+/// Every room from none to one past the need, for all lent memory.
 #[test]
 fn lent_room() {
     let blank = Record { period: 1, deadline: 2, lock: 3, frame_count: 4, frames: [5; 8] };
@@ -143,13 +143,13 @@ fn lent_room() {
         for room in generate::rooms(8 * n) {
             let (mut times, fits) = (vec![77; room], room >= 8 * n);
             assert_eq!(analysis::analyse_sheet(&bytes, &mut times), fits.then_some(analysis.verdict).ok_or(Refusal::Room));
-            assert_eq!(times, filled(room, fits, &analysis.places(), 77));
+            assert_eq!(times, filled(room, fits, &analysis.slots(), 77));
         }
-        let places: Vec<u8> = analysis.places().iter().flat_map(|t| t.to_be_bytes()).collect();
+        let slots: Vec<u8> = analysis.slots().iter().flat_map(|t| t.to_be_bytes()).collect();
         for room in generate::rooms(32 * n) {
             let (mut raw, fits) = (vec![0x5A; room], room >= 32 * n);
             assert_eq!(analysis::check_sheet(&bytes, &mut raw), if fits { analysis.verdict.code() } else { 12 });
-            assert_eq!(raw, filled(room, fits, &places, 0x5A));
+            assert_eq!(raw, filled(room, fits, &slots, 0x5A));
         }
     }
 }
@@ -219,7 +219,7 @@ fn costly_sets_end() {
         let began = std::time::Instant::now();
         let analysis = analyse(&set);
         println!("costly set: {:?} after {} ms", analysis.verdict, began.elapsed().as_millis());
-        assert_eq!(analysis.places().len(), MOST_FRAMES * set.tasks.len());
+        assert_eq!(analysis.slots().len(), MOST_FRAMES * set.tasks.len());
     }
 }
 

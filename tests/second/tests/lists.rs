@@ -8,7 +8,7 @@ use second::{proved, sheet};
 use std::collections::{BTreeMap, BTreeSet};
 use std::fmt::Debug;
 
-/// Places before and after what is lent, which no call may touch.
+/// Memory before and after what is lent, which no call may touch.
 const GUARD: usize = 3;
 
 /// The comparisons made with one face, by refusal, 0 for none.

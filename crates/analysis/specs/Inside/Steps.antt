@@ -11,7 +11,7 @@ use Rattle.response.specs.Response.{response-to}
 use Rattle.response.specs.declared.Response.{Response}
 use Rattle.response.specs.declared.Response.the-variants.{At, Never}
 use Rattle.response.specs.declared.Above.{Above}
-use Rattle.analysis.specs.Times.{places-by}
+use Rattle.analysis.specs.Times.{slots-by}
 use Rattle.analysis.specs.declared.Finding.{Finding}
 
 -- each task has a frame
@@ -55,4 +55,4 @@ unfoldable pub finding-to : Above → ℕ → ℕ → Record → Finding
 finding-to above number blocked r =
     let t = task-in r in
     let pass = is-there (response-to above blocked (largest (t .frames)) (shortest-deadline t)) in
-    finding-with number blocked t pass (places-by pass (times-to above blocked r))
+    finding-with number blocked t pass (slots-by pass (times-to above blocked r))

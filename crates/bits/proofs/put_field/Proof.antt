@@ -15,9 +15,9 @@ use Rattle.bits.proofs.put_field.Reads as reads
 use Rattle.bits.proofs.put_field.Lts as lts
 use Rattle.bits.proofs.lies_within.Reads as lies-within-reads
 use Rattle.bits.proofs.number.Reads as number-reads
-use Rattle.bits.proofs.place_of.Reads as place-of-reads
-use Rattle.bits.proofs.put_number.Reads as put-number-reads
-use Rattle.bits.proofs.with_bits.Reads as with-bits-reads
+use Rattle.bits.proofs.touched_by.Reads as touched-by-reads
+use Rattle.bits.proofs.hold_number.Reads as hold-number-reads
+use Rattle.bits.proofs.with_value.Reads as with-value-reads
 
 lies-within-requires : tie.Need-lies-within-requires
 lies-within-requires c κs = search needs
@@ -43,8 +43,8 @@ returns-2 c =
     let no = fits-not (now (a .bytes)) (a .at) (a .width) (a .value) (there (c .before)) (not-shifted-out _ _ (c .if2 .taken)) in
     (sym no, sym (stored-not _ _ _ _ no))
 
-place-of-requires : tie.Need-place-of-requires
-place-of-requires c κs = let h = there (c .before) in (h .low, h .high)
+touched-by-requires : tie.Need-touched-by-requires
+touched-by-requires c κs = let h = there (c .before) in (h .low, h .high)
 
 sub-number : tie.Need-sub-number
 sub-number c = search needs
@@ -53,28 +53,28 @@ part-number-start : tie.Need-part-number-start
 part-number-start c = search needs
 
 part-number-end : tie.Need-part-number-end
-part-number-end c = part-end _ _ _ _ _ _ (there (c .before .before .before)) (c .before .place-of .ensures)
+part-number-end c = part-end _ _ _ _ _ _ (there (c .before .before .before)) (c .before .touched-by .ensures)
 
 number-requires : tie.Need-number-requires
-number-requires c κs = part-small _ _ _ _ _ _ (there (c .before .before .before .before)) (c .before .before .place-of .ensures)
+number-requires c κs = part-small _ _ _ _ _ _ (there (c .before .before .before .before)) (c .before .before .touched-by .ensures)
 
-sub-put-number : tie.Need-sub-put-number
-sub-put-number c = search needs
+sub-hold-number : tie.Need-sub-hold-number
+sub-hold-number c = search needs
 
-part-put-number-start : tie.Need-part-put-number-start
-part-put-number-start c = search needs
+part-hold-number-start : tie.Need-part-hold-number-start
+part-hold-number-start c = search needs
 
-part-put-number-end : tie.Need-part-put-number-end
-part-put-number-end c = part-end _ _ _ _ _ _ (there (c .before .before .before .before .before)) (c .before .before .before .place-of .ensures)
+part-hold-number-end : tie.Need-part-hold-number-end
+part-hold-number-end c = part-end _ _ _ _ _ _ (there (c .before .before .before .before .before)) (c .before .before .before .touched-by .ensures)
 
-with-bits-requires : tie.Need-with-bits-requires
-with-bits-requires c κs =
+with-value-requires : tie.Need-with-value-requires
+with-value-requires c κs =
     let e = c .before .before .before .before .before in
-    let p = c .before .before .before .before .place-of .ensures in
+    let p = c .before .before .before .before .touched-by .ensures in
     (rw (c .before .number .ensures) (part-number-lt _ _ _ _ _ _ (there (e .before)) p), there (e .before) .high, past-small _ _ _ _ _ _ (there (e .before)) p, small e)
 
-put-number-requires : tie.Need-put-number-requires
-put-number-requires c κs = part-small _ _ _ _ _ _ (there (c .before .before .before .before .before .before .before)) (c .before .before .before .before .before .place-of .ensures)
+hold-number-requires : tie.Need-hold-number-requires
+hold-number-requires c κs = part-small _ _ _ _ _ _ (there (c .before .before .before .before .before .before .before)) (c .before .before .before .before .before .touched-by .ensures)
 
 same-length : tie.Need-same-length
 same-length c = search needs
@@ -84,11 +84,11 @@ returns-3 c =
     let e = c .before .before .before .before .before .before .before .before .before in
     let a = e .before .before .before .before .args in
     let h = there (e .before) in
-    let p = c .before .before .before .before .before .before .before .before .place-of .ensures in
+    let p = c .before .before .before .before .before .before .before .before .touched-by .ensures in
     let yes-fits = fits-well (now (a .bytes)) (a .at) (a .width) (a .value) h (small e) in (
       sym yes-fits,
       field-put _ _ _ _ _ _ h p (a .value) _ _ _ (small e) (λ i. e .before .before .before .slice-known .given i .fits)
-          (c .before .before .before .before .before .number .ensures) (c .before .before .before .with-bits .ensures) (c .before .before .put-number .ensures)
+          (c .before .before .before .before .before .number .ensures) (c .before .before .before .with-value .ensures) (c .before .before .hold-number .ensures)
           ∙ sym (stored-well _ _ _ _ yes-fits),
     )
 
@@ -100,15 +100,15 @@ put-field-spec =
     returns
     shr-if2
     returns-2
-    place-of-requires
+    touched-by-requires
     sub-number
     part-number-start
     part-number-end
     number-requires
-    sub-put-number
-    part-put-number-start
-    part-put-number-end
-    with-bits-requires
-    put-number-requires
+    sub-hold-number
+    part-hold-number-start
+    part-hold-number-end
+    with-value-requires
+    hold-number-requires
     same-length
     returns-3)

@@ -17,7 +17,7 @@ use Rattle.bits.proofs.take_field.Lts as lts
 use Rattle.bits.proofs.lies_within.Reads as lies-within-reads
 use Rattle.bits.proofs.low_bits.Reads as low-bits-reads
 use Rattle.bits.proofs.number.Reads as number-reads
-use Rattle.bits.proofs.place_of.Reads as place-of-reads
+use Rattle.bits.proofs.touched_by.Reads as touched-by-reads
 
 lies-within-requires : tie.Need-lies-within-requires
 lies-within-requires c κs = search needs
@@ -28,8 +28,8 @@ returns c = sym (taken-outside _ _ _ (failed _ _ _ _ (c .before .lies-within .en
 there : (c : tie.Else1) → let a = c .before .before .before .args in Inside (length (now (a .bytes))) (a .at) (a .width)
 there c = passed _ _ _ _ (c .before .lies-within .ensures) (c .if1 .left)
 
-place-of-requires : tie.Need-place-of-requires
-place-of-requires c κs = let h = there c in (h .low, h .high)
+touched-by-requires : tie.Need-touched-by-requires
+touched-by-requires c κs = let h = there c in (h .low, h .high)
 
 sub-number : tie.Need-sub-number
 sub-number c = search needs
@@ -38,10 +38,10 @@ part-number-start : tie.Need-part-number-start
 part-number-start c = search needs
 
 part-number-end : tie.Need-part-number-end
-part-number-end c = part-end _ _ _ _ _ _ (there (c .before)) (c .place-of .ensures)
+part-number-end c = part-end _ _ _ _ _ _ (there (c .before)) (c .touched-by .ensures)
 
 number-requires : tie.Need-number-requires
-number-requires c κs = part-small _ _ _ _ _ _ (there (c .before .before)) (c .before .place-of .ensures)
+number-requires c κs = part-small _ _ _ _ _ _ (there (c .before .before)) (c .before .touched-by .ensures)
 
 shr-low-bits : tie.Need-shr-low-bits
 shr-low-bits c = search needs
@@ -58,8 +58,8 @@ returns-2 : tie.Need-returns-2
 returns-2 c =
     let h = there (c .before .before .before .before) in
     ap Value (c .low-bits .ensures
-    ∙ ap (λ (n : ℕ). n / 2 ^ (c .before .before .before .place-of .result .past) % 2 ^ (c .before .before .before .before .before .before .before .args .width)) (c .before .number .ensures)
-    ∙ sym (field-value _ _ _ _ _ _ h (c .before .before .before .place-of .ensures)))
+    ∙ ap (λ (n : ℕ). n / 2 ^ (c .before .before .before .touched-by .result .past) % 2 ^ (c .before .before .before .before .before .before .before .args .width)) (c .before .number .ensures)
+    ∙ sym (field-value _ _ _ _ _ _ h (c .before .before .before .touched-by .ensures)))
     ∙ sym (taken-value _ _ _ h)
 
 pub take-field-spec : {M : Type 1} → statement M
@@ -68,7 +68,7 @@ take-field-spec =
     (tie.spec
     lies-within-requires
     returns
-    place-of-requires
+    touched-by-requires
     sub-number
     part-number-start
     part-number-end

@@ -17,8 +17,8 @@ abbrev μ-loop : tie.MeasureT-loop
 loop-holds : tie.Need-loop-holds Inv-loop μ-loop
 loop-holds c = (search needs, topped-lt (c .args .c) (c .args .b) (c .fits .c .fits), refl)
 
-step-requires : tie.Need-step-requires Inv-loop μ-loop
-step-requires c κs = search needs
+shift-requires : tie.Need-shift-requires Inv-loop μ-loop
+shift-requires c κs = search needs
 
 add-k : tie.Need-add-k Inv-loop μ-loop
 add-k c = search needs
@@ -30,8 +30,8 @@ loop-again : tie.Need-loop-again Inv-loop μ-loop
 loop-again c =
     let at = c .before .before .loop in (
       search needs,
-      c .step .ok,
-      shifted-turn 8 (at .k) (at .r) (c .step .result) (c .before .loop-test .taken) (c .step .ensures) ∙ at .inv .2,
+      c .shift .ok,
+      shifted-turn 8 (at .k) (at .r) (c .shift .result) (c .before .loop-test .taken) (c .shift .ensures) ∙ at .inv .2,
     )
 
 returns : tie.Need-returns Inv-loop μ-loop
@@ -43,4 +43,4 @@ returns c =
 pub feed-spec : {M : Type 1} → statement M
 feed-spec =
     tie.close
-    (tie.spec Inv-loop μ-loop loop-holds step-requires add-k loop-less loop-again returns)
+    (tie.spec Inv-loop μ-loop loop-holds shift-requires add-k loop-less loop-again returns)

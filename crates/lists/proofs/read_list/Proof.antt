@@ -1,4 +1,4 @@
--- `read_list` meets its contract: a walk of its MIR, by hand. All that it knows of `read_sheet`, `set_in`, `scattered` and `answered` is that each meets its contract.
+-- `read_list` meets its contract: a walk of its MIR, by hand. All that it knows of `read_sheet`, `set_read`, `scattered` and `read_answer` is that each meets its contract.
 -- The list goes to `scattered` at its own lifetime, share and name, and is given up for good (`gave-slice`). A refused reading has a set with no task, which fills nothing.
 use mathlib.Core.Path.{_≡_, refl, _∙_}
 use Prim.Native.Nat.{ℕ}
@@ -50,18 +50,18 @@ use Rattle.reader.proofs.read_sheet as read-sheet
 use Rattle.reader.proofs.read_sheet.Symbol as read-sheet-def
 use Rattle.reader.proofs.read_sheet.Symbol.{name as #read-sheet}
 use Rattle.reader.proofs.read_sheet.Met as read-sheet-thm
-use Rattle.lists.proofs.set_in as set-in
-use Rattle.lists.proofs.set_in.Symbol as set-in-def
-use Rattle.lists.proofs.set_in.Symbol.{name as #set-in}
-use Rattle.lists.proofs.set_in.Met as set-in-thm
+use Rattle.lists.proofs.set_read as set-read
+use Rattle.lists.proofs.set_read.Symbol as set-read-def
+use Rattle.lists.proofs.set_read.Symbol.{name as #set-read}
+use Rattle.lists.proofs.set_read.Met as set-read-thm
 use Rattle.lists.proofs.scattered as scattered
 use Rattle.lists.proofs.scattered.Symbol as scattered-def
 use Rattle.lists.proofs.scattered.Symbol.{name as #scattered}
 use Rattle.lists.proofs.scattered.Met as scattered-thm
-use Rattle.lists.proofs.answered as answered
-use Rattle.lists.proofs.answered.Symbol as answered-def
-use Rattle.lists.proofs.answered.Symbol.{name as #answered}
-use Rattle.lists.proofs.answered.Met as answered-thm
+use Rattle.lists.proofs.read_answer as answers
+use Rattle.lists.proofs.read_answer.Symbol as read-answer-def
+use Rattle.lists.proofs.read_answer.Symbol.{name as #read-answer}
+use Rattle.lists.proofs.read_answer.Met as read-answer-thm
 use Rattle.lists.proofs.read_list.Key.{name as #read-list}
 use Rattle.lists.proofs.read_list as read-list
 use Rattle.lists.proofs.read_list.Statement as stated
@@ -75,14 +75,14 @@ module _ {M : Type 1} (𝓤 : URA M) (H : Heap 𝓤) (A : Atoms 𝓤) (mem : Mem
   abbrev ReadSheet : Contract 𝓤
   ReadSheet = tripleOf 𝓤 H A read-sheet.signature (read-sheet.spec 𝓤 H A mem run)
 
-  abbrev SetIn : Contract 𝓤
-  SetIn = tripleOf 𝓤 H A set-in.signature (set-in.spec 𝓤 H A mem run)
+  abbrev SetRead : Contract 𝓤
+  SetRead = tripleOf 𝓤 H A set-read.signature (set-read.spec 𝓤 H A mem run)
 
   abbrev Scattered : Contract 𝓤
   Scattered = tripleOf 𝓤 H A scattered.signature (scattered.spec 𝓤 H A mem run)
 
-  abbrev Answered : Contract 𝓤
-  Answered = tripleOf 𝓤 H A answered.signature (answered.spec 𝓤 H A mem run)
+  abbrev ReadAnswer : Contract 𝓤
+  ReadAnswer = tripleOf 𝓤 H A answers.signature (answers.spec 𝓤 H A mem run)
 
 module _ {M : Type 1} (𝓤 : URA M) (H : Heap 𝓤) (A : Atoms 𝓤) (W : Given 𝓤 H A) (mem : Memory → SProp 𝓤) (run : Routine → Fun 𝓤) (κ κ′ : Lft) (q q′ : Share) (x : RefT (List ℕ)) (y : RefT (List Task))
     (room : Room u8 (length (x .now))) (room′ : Room T.the-row (length (y .now))) where
@@ -126,9 +126,9 @@ module _ {M : Type 1} (𝓤 : URA M) (H : Heap 𝓤) (A : Atoms 𝓤) (W : Given
       split ! $ move ! (0 ∷ 2 ∷ []) $ join ! $ frame ! $ move ! (1 ∷ 0 ∷ []) $ fjoin ! $ nothing ! $ fjoin ! $ frame ! $
       owned ! Lr.the-row (Is Lr.the-row) (list-read-makes 𝓤 H A) w _ is $ done !
 
-  walk : (𝓣 : Tables 𝓤 H) → Triple 𝓤 (𝓣 .C #read-sheet) (ReadSheet 𝓤 H A mem run) → Triple 𝓤 (𝓣 .C #set-in) (SetIn 𝓤 H A mem run) → Triple 𝓤 (𝓣 .C #scattered) (Scattered 𝓤 H A mem run) → Triple 𝓤 (𝓣 .C #answered) (Answered 𝓤 H A mem run)
+  walk : (𝓣 : Tables 𝓤 H) → Triple 𝓤 (𝓣 .C #read-sheet) (ReadSheet 𝓤 H A mem run) → Triple 𝓤 (𝓣 .C #set-read) (SetRead 𝓤 H A mem run) → Triple 𝓤 (𝓣 .C #scattered) (Scattered 𝓤 H A mem run) → Triple 𝓤 (𝓣 .C #read-answer) (ReadAnswer 𝓤 H A mem run)
       → ent 𝓤 (onEntry 𝓤 H A read-list.signature (κ, (κ′, tt)) (q, (q′, tt)) a vals) (WpFn 𝓤 H (𝓣 .C) (𝓣 .Λ) code.function (s ∷ s′ ∷ []) Post)
-  walk 𝓣 known-read known-set known-scattered known-answered =
+  walk 𝓣 known-read known-set known-scattered known-answer =
       qed W ((‵ (flft κ q) ⊛ (‵ (flft κ′ q′) ⊛ ‵ ftrue)) ∷ ‵ (owns (ShrSlice (named 0) κ u8 ∷ MutSlice (named 1) κ′ T.the-row ∷ []) a vals) ∷ []) ∵ enter ! (𝓣 .C) (𝓣 .Λ) code.function (s ∷ s′ ∷ []) _ $
       alloc1 ! (λ l₀. alloc1 ! (λ l₁. alloc1 ! (λ l₂. alloc1 ! (λ l₃. alloc1 ! (λ l₄. alloc1 ! (λ l₅. alloc1 ! (λ l₆. alloc1 ! (λ l₇. alloc1 ! (λ l₈. alloc0 ! $ params1 ! $
       pass1 ! (init ! 14 refl (tt, (tt, (record { fits = room .0 }, tt)))) $ pass1 ! (init ! 12 refl (tt, (tt, (record { fits = room′ .0 }, tt)))) $ pass0 ! $
@@ -141,7 +141,7 @@ module _ {M : Type 1} (𝓤 : URA M) (H : Heap 𝓤) (A : Atoms 𝓤) (W : Given
       calls-told ! (fmOf 𝓤 H (W .laws) 𝓣) read-sheet.ended (read-sheet.clauses 𝓤 H A mem run) known-read ((κ, tt), (q, tt), tt, (x, tt), (s ∷ [], tt)) tt (id⊢ 𝓤 _)
       (λ z ws. z ≡ r) (λ z ws. id⊢ 𝓤 _) r (λ z ws e. e) reading-val reading-tells (and-then ! (load ! (from ! (stop !)) (look ! 17 refl)) (no-more !)) (λ _ _ is-r.
       land ! (from ! (stop !)) (init ! 14 refl (reading-typed 𝓤 H A W r is-r .0)) $
-      calls-value ! (fmOf 𝓤 H (W .laws) 𝓣) set-in.ended (set-in.clauses 𝓤 H A mem run) known-set (tt, tt, tt, (r, tt), (reading-val r ∷ [], tt)) tt (id⊢ 𝓤 _) (id⊢ 𝓤 _) (reading-makes 𝓤 H A, tt) (is-r, tt)
+      calls-value ! (fmOf 𝓤 H (W .laws) 𝓣) set-read.ended (set-read.clauses 𝓤 H A mem run) known-set (tt, tt, tt, (r, tt), (reading-val r ∷ [], tt)) tt (id⊢ 𝓤 _) (id⊢ 𝓤 _) (reading-makes 𝓤 H A, tt) (is-r, tt)
       (λ z. z ≡ d) (λ z ws. id⊢ 𝓤 _) d (λ z e. e) set-val set-tells (and-then ! (load ! (from ! (stop !)) (look ! 15 refl)) (no-more !)) (λ is-d.
       land ! (from ! (stop !)) (init ! 10 refl (set-typed 𝓤 H A W d is-d .0)) $
       assigns ! (addr ! (from ! (fld ! refl (hop ! (look-in ! 16 (sub ! 0 refl (whole !))) (stop !))))) (from ! (stop !)) (init ! 8 refl (tt, tt)) $
@@ -155,7 +155,7 @@ module _ {M : Type 1} (𝓤 : URA M) (H : Heap 𝓤) (A : Atoms 𝓤) (W : Given
       (and-then ! (load ! (from ! (stop !)) (look ! 9 refl)) (and-then ! (load ! (from ! (stop !)) (look ! 5 refl)) (no-more !))) (λ ws e _.
       land ! (from ! (stop !)) (init ! 12 refl (tt, tt)) $
       assigns ! (of-opd ! (load ! (from ! (fld ! refl (stop !))) (look-in ! 16 (sub ! 1 refl (whole !))))) (from ! (stop !)) (init ! 4 refl (tt, record { fits = room′ .0 })) $
-      calls-value ! (fmOf 𝓤 H (W .laws) 𝓣) answered.ended (answered.clauses 𝓤 H A mem run) known-answered (tt, tt, tt, (r, (length (y .now), tt)), (reading-val r ∷ [], (vint w64 (length (y .now)) ∷ [], tt))) tt (id⊢ 𝓤 _) (id⊢ 𝓤 _)
+      calls-value ! (fmOf 𝓤 H (W .laws) 𝓣) answers.ended (answers.clauses 𝓤 H A mem run) known-answer (tt, tt, tt, (r, (length (y .now), tt)), (reading-val r ∷ [], (vint w64 (length (y .now)) ∷ [], tt))) tt (id⊢ 𝓤 _) (id⊢ 𝓤 _)
       (reading-makes 𝓤 H A, (uint-makes 𝓤 H A W w64, tt)) (is-r, ((refl, room′ .0), tt)) (λ z. z ≡ w) (λ z ws. id⊢ 𝓤 _) w (λ z e. e) list-read-val list-read-tells
       (and-then ! (load ! (from ! (stop !)) (look ! 15 refl)) (and-then ! (load ! (from ! (stop !)) (look ! 5 refl)) (no-more !))) (λ is.
       land ! (from ! (stop !)) (init ! 20 refl (list-read-typed 𝓤 H A W w is .0)) $
@@ -168,13 +168,13 @@ module _ {M : Type 1} (𝓤 : URA M) (H : Heap 𝓤) (A : Atoms 𝓤) (W : Given
       keep ! (3 ∷ 2 ∷ 0 ∷ []) $ by ! (exits (ws .1 .0) e l is)))))))))))))))
 
 module _ {M : Type 1} (𝓤 : URA M) (H : Heap 𝓤) (A : Atoms 𝓤) (W : Given 𝓤 H A) (mem : Memory → SProp 𝓤) (run : Routine → Fun 𝓤) (𝓣 : Tables 𝓤 H)
-    (known-read : Triple 𝓤 (𝓣 .C #read-sheet) (ReadSheet 𝓤 H A mem run)) (known-set : Triple 𝓤 (𝓣 .C #set-in) (SetIn 𝓤 H A mem run))
-    (known-scattered : Triple 𝓤 (𝓣 .C #scattered) (Scattered 𝓤 H A mem run)) (known-answered : Triple 𝓤 (𝓣 .C #answered) (Answered 𝓤 H A mem run)) where
+    (known-read : Triple 𝓤 (𝓣 .C #read-sheet) (ReadSheet 𝓤 H A mem run)) (known-set : Triple 𝓤 (𝓣 .C #set-read) (SetRead 𝓤 H A mem run))
+    (known-scattered : Triple 𝓤 (𝓣 .C #scattered) (Scattered 𝓤 H A mem run)) (known-answer : Triple 𝓤 (𝓣 .C #read-answer) (ReadAnswer 𝓤 H A mem run)) where
   read-list-walks : Walks 𝓤 H A read-list.ended stayed (WpFn 𝓤 H (𝓣 .C) (𝓣 .Λ) code.function) (read-list.clauses 𝓤 H A mem run)
   read-list-walks = walked 𝓤 H A read-list.ended stayed (read-list.clauses 𝓤 H A mem run) (WpFn 𝓤 H (𝓣 .C) (𝓣 .Λ) code.function)
       (λ κs. (slice-vals, (slice-vals, tt))) (λ κs. (shr-slice-tells (named 0) (κs .0) u8, (mut-slice-tells (named 1) (κs .1 .0) T.the-row, tt)))
       (λ κs qs bounds a g are. via 𝓤 _ (fst∗ 𝓤 _ (emp 𝓤))
-      (walk 𝓤 H A W mem run (κs .0) (κs .1 .0) (qs .0) (qs .1 .0) (a .0) (a .1 .0) (are .0 .0 .1) (are .1 .0 .0 .1) 𝓣 known-read known-set known-scattered known-answered))
+      (walk 𝓤 H A W mem run (κs .0) (κs .1 .0) (qs .0) (qs .1 .0) (a .0) (a .1 .0) (are .0 .0 .1) (are .1 .0 .0 .1) 𝓣 known-read known-set known-scattered known-answer))
 
   read-list-meets : Meets 𝓤 H A read-list.signature (WpFn 𝓤 H (𝓣 .C) (𝓣 .Λ) code.function) (read-list.spec 𝓤 H A mem run)
   read-list-meets = walk-meets 𝓤 H A read-list.ended stayed W
@@ -188,6 +188,6 @@ read-list-spec 𝓤 H 𝓜 𝓖 𝓡 =
     (tables 𝓤 H 𝓜 𝓡 code.env .C) (tables 𝓤 H 𝓜 𝓡 code.env .Λ) #read-list code.function (code.unfolded 𝓤 H 𝓜 𝓡)
     (read-list-meets 𝓤 H (𝓖 .A) (givenOf 𝓤 H 𝓜 𝓖) (𝓜 .mem) (𝓡 .run) (tablesOf 𝓤 H 𝓜 (tables 𝓤 H 𝓜 𝓡 code.env))
     (cited 𝓤 H (ReadSheet 𝓤 H (𝓖 .A) (𝓜 .mem) (𝓡 .run)) 𝓜 𝓡 code.env #read-sheet read-sheet-def.routine code.calls-reader·read-sheet (read-sheet-thm.met 𝓤 H 𝓜 𝓖 𝓡))
-    (cited 𝓤 H (SetIn 𝓤 H (𝓖 .A) (𝓜 .mem) (𝓡 .run)) 𝓜 𝓡 code.env #set-in set-in-def.routine code.calls-lists·set-in (set-in-thm.met 𝓤 H 𝓜 𝓖 𝓡))
+    (cited 𝓤 H (SetRead 𝓤 H (𝓖 .A) (𝓜 .mem) (𝓡 .run)) 𝓜 𝓡 code.env #set-read set-read-def.routine code.calls-lists·set-read (set-read-thm.met 𝓤 H 𝓜 𝓖 𝓡))
     (cited 𝓤 H (Scattered 𝓤 H (𝓖 .A) (𝓜 .mem) (𝓡 .run)) 𝓜 𝓡 code.env #scattered scattered-def.routine code.calls-lists·scattered (scattered-thm.met 𝓤 H 𝓜 𝓖 𝓡))
-    (cited 𝓤 H (Answered 𝓤 H (𝓖 .A) (𝓜 .mem) (𝓡 .run)) 𝓜 𝓡 code.env #answered answered-def.routine code.calls-lists·answered (answered-thm.met 𝓤 H 𝓜 𝓖 𝓡)))
+    (cited 𝓤 H (ReadAnswer 𝓤 H (𝓖 .A) (𝓜 .mem) (𝓡 .run)) 𝓜 𝓡 code.env #read-answer read-answer-def.routine code.calls-lists·read-answer (read-answer-thm.met 𝓤 H 𝓜 𝓖 𝓡)))

@@ -11,8 +11,8 @@ use Rattle.reader.proofs.read_times.Tie as tie
 frame-widths-requires : tie.Need-frame-widths-requires
 frame-widths-requires c κs = search needs
 
-array-share-prefix-places : tie.Need-array-share-prefix-places
-array-share-prefix-places c = search needs
+array-share-prefix-per-frame : tie.Need-array-share-prefix-per-frame
+array-share-prefix-per-frame c = search needs
 
 slice-aggregate-take-row : tie.Need-slice-aggregate-take-row
 slice-aggregate-take-row c =
@@ -37,7 +37,7 @@ read-times-spec =
     tie.close
     (tie.spec
     frame-widths-requires
-    array-share-prefix-places
+    array-share-prefix-per-frame
     slice-aggregate-take-row
     slice-aggregate-take-row-2
     take-row-requires

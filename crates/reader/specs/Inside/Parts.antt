@@ -6,10 +6,10 @@ use lib.Dec.{ltb, eqb}
 use lib.ListN.{length, replicate}
 use Rattle.sheet.specs.Constants.{the-version, most-frames}
 use Rattle.records.specs.Rows.{total}
-use Rattle.records.specs.Faces.{ends, row-has-places, taken-row}
+use Rattle.records.specs.Faces.{ends, row-has-slots, taken-row}
 use Rattle.sheet.specs.Fields.{fixed-widths, frame-widths}
 use Rattle.sheet.specs.Tasks.{task-in, record-of, records-of, blank-record, set-with, blank-set}
-use Rattle.sheet.specs.Layout.{header-in, records-in, frame-count-in, record-width, task-at-start, tasks-in}
+use Rattle.sheet.specs.Layout.{header-in, behind-header, frame-count-in, record-width, task-at-start, tasks-in}
 use Rattle.lent.specs.Checks.{Check, _⇒_}
 use Rattle.sheet.specs.Admission.{decided, policy-check, task-count-check, frame-count-check, task-checks}
 use Rattle.sheet.specs.Reading.{layout-checks}
@@ -31,11 +31,11 @@ unfoldable pub reading-of : Answer → TaskSet → Reading
 reading-of Admitted s = record { answer = Admitted; set = s }
 reading-of (Refused why) s = turned-away why
 
--- n frame times from a position on in eight places, and where they end
-unfoldable pub times-from : List ℕ → ℕ → ℕ → Times
-times-from s at n =
+-- n frame times from a position on in eight slots, and where they end
+unfoldable pub frame-times-at : List ℕ → ℕ → ℕ → Times
+frame-times-at s at n =
     record {
-      end = ends (row-has-places (length s) at (frame-widths n) most-frames) at (frame-widths n);
+      end = ends (row-has-slots (length s) at (frame-widths n) most-frames) at (frame-widths n);
       times = taken-row s at (frame-widths n) (replicate most-frames 0);
     }
 
@@ -72,11 +72,11 @@ body-checks bits =
     ∷ policy-check (header .policy)
     ∷ (not (eqb (header .spare) 0) ⇒ BitSet)
     ∷ task-count-check (header .task-count)
-    ∷ layout-checks 0 (header .task-count) (records-in bits)
+    ∷ layout-checks 0 (header .task-count) (behind-header bits)
 
 -- the set that the bytes before the check word carry
 unfoldable pub set-in : List Bool → TaskSet
-set-in bits = let header = header-in bits in set-with (header .policy) (tasks-in (header .task-count) (records-in bits))
+set-in bits = let header = header-in bits in set-with (header .policy) (tasks-in (header .task-count) (behind-header bits))
 
 -- what the bytes before the check word are read as
 unfoldable pub body-reading : List Bool → Reading

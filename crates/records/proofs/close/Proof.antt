@@ -5,11 +5,11 @@ use Rattle.records.proofs.Filling.{not-closed, was-closed}
 use Rattle.records.proofs.close.Statement.{statement}
 use Rattle.records.proofs.close.Tie as tie
 
-record-size-requires : tie.Need-record-size-requires
-record-size-requires c κs = search needs
+sealed-size-requires : tie.Need-sealed-size-requires
+sealed-size-requires c κs = search needs
 
 returns : tie.Need-returns
-returns c = not-closed _ _ (λ e. c .if1 .taken (e ∙ sym (c .before .record-size .ensures)))
+returns c = not-closed _ _ (λ e. c .if1 .taken (e ∙ sym (c .before .sealed-size .ensures)))
 
 sub-put-field : tie.Need-sub-put-field
 sub-put-field c = search needs
@@ -27,13 +27,13 @@ returns-2 : tie.Need-returns-2
 returns-2 c =
     let q = c .before .before .before .before .before .before in
     let s = q .before .before in
-    was-closed _ _ (s .if1 .left ∙ s .before .record-size .ensures) _ (q .put-field .ensures .1) (λ i. c .before .before .before .before .slice-known2 .given i .fits) (q .put-field .kept .0) _ (c .before .before .seal .ensures .1)
+    was-closed _ _ (s .if1 .left ∙ s .before .sealed-size .ensures) _ (q .put-field .ensures .1) (λ i. c .before .before .before .before .slice-known2 .given i .fits) (q .put-field .kept .0) _ (c .before .before .seal .ensures .1)
 
 pub close-spec : {M : Type 1} → statement M
 close-spec =
     tie.close
     (tie.spec
-    record-size-requires
+    sealed-size-requires
     returns
     sub-put-field
     put-field-requires

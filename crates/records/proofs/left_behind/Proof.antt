@@ -29,16 +29,16 @@ returns-3 c =
     let a = c .before .before .before .before .args in
     rest-long _ (omega (arith, length-rest (now (a .bytes)) (a .at), c .if3 .taken))
 
-sub-number-at : tie.Need-sub-number-at
-sub-number-at c = search needs
+sub-field-number : tie.Need-sub-field-number
+sub-field-number c = search needs
 
-number-at-requires : tie.Need-number-at-requires
-number-at-requires c κs = search needs
+field-number-requires : tie.Need-field-number-requires
+field-number-requires c κs = search needs
 
-number : (c : tie.After-number-at) → let a = c .before .before .before .before .before .args in c .number-at .result ≡ value (drop (a .at) (bits-of (now (a .bytes))))
+number : (c : tie.After-field-number) → let a = c .before .before .before .before .before .args in c .field-number .result ≡ value (drop (a .at) (bits-of (now (a .bytes))))
 number c =
     let a = c .before .before .before .before .before .args in
-    c .number-at .ensures
+    c .field-number .ensures
     ∙ number-is (now (a .bytes)) (a .at) (8 - a .at % 8) (record { low = omega arith; high = omega arith; there = omega arith })
     ∙ ap value (field-rest (now (a .bytes)) (a .at) _ (omega arith))
 
@@ -54,4 +54,4 @@ returns-5 c =
 
 pub left-behind-spec : {M : Type 1} → statement M
 left-behind-spec =
-    tie.close (tie.spec returns returns-2 sub-if3 returns-3 sub-number-at number-at-requires returns-4 returns-5)
+    tie.close (tie.spec returns returns-2 sub-if3 returns-3 sub-field-number field-number-requires returns-4 returns-5)

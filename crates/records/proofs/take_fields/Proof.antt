@@ -28,8 +28,8 @@ mul-width c = search needs
 shared-slice-read-width : tie.Need-shared-slice-read-width Inv-loop μ-loop
 shared-slice-read-width c = search needs
 
-number-at-requires : tie.Need-number-at-requires Inv-loop μ-loop
-number-at-requires c κs = search needs
+field-number-requires : tie.Need-field-number-requires Inv-loop μ-loop
+field-number-requires c κs = search needs
 
 mul-numbers : tie.Need-mul-numbers Inv-loop μ-loop
 mul-numbers c = search needs
@@ -44,7 +44,7 @@ add-next : tie.Need-add-next Inv-loop μ-loop
 add-next c =
     let t = c .before .before in
     let h = can (t .before .before .before .before .before) in
-    omega (arith, h .short, t .before .loop .inv .place, total-part (now (t .before .before .before .before .before .args .widths)) (t .before .loop .i) (t .loop-test .taken))
+    omega (arith, h .short, t .before .loop .inv .position, total-part (now (t .before .before .before .before .before .args .widths)) (t .before .loop .i) (t .loop-test .taken))
 
 add-i : tie.Need-add-i Inv-loop μ-loop
 add-i c = search needs
@@ -55,7 +55,7 @@ loop-less c = search needs
 loop-again : tie.Need-loop-again Inv-loop μ-loop
 loop-again c =
     let t = c .before .before in
-    taken-more (can (t .before .before .before .before .before)) (t .before .loop .inv) (t .loop-test .taken) _ (c .number-at .ensures)
+    taken-more (can (t .before .before .before .before .before)) (t .before .loop .inv) (t .loop-test .taken) _ (c .field-number .ensures)
 
 same-length : tie.Need-same-length Inv-loop μ-loop
 same-length c = taken-long (can (c .before .before .before .before .before)) (c .before .loop .inv)
@@ -74,7 +74,7 @@ take-fields-spec =
     loop-holds
     mul-width
     shared-slice-read-width
-    number-at-requires
+    field-number-requires
     mul-numbers
     slice-write-numbers
     add-next

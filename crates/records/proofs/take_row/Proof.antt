@@ -5,12 +5,12 @@ use borrow.Author.Needs.{needs}
 use borrow.Author.Tests.{not-true, not-false}
 use denote.Ref.{now}
 use lib.ListN.{length}
-use Rattle.records.specs.Faces.{row-has-places}
-use Rattle.records.proofs.Faces.{take-there, take-places, take-both, not-taken, was-taken}
+use Rattle.records.specs.Faces.{row-has-slots}
+use Rattle.records.proofs.Faces.{take-there, take-slots, take-both, not-taken, was-taken}
 use Rattle.records.proofs.take_row.Statement.{statement}
 use Rattle.records.proofs.take_row.Tie as tie
 
-can : (c : tie.Else2) → let a = c .before .before .before .before .before .before .args in row-has-places (length (now (a .bytes))) (a .at) (now (a .widths)) (length (now (a .numbers))) ≡ true
+can : (c : tie.Else2) → let a = c .before .before .before .before .before .before .args in row-has-slots (length (now (a .bytes))) (a .at) (now (a .widths)) (length (now (a .numbers))) ≡ true
 can c = take-both _ _ _ _ (sym (c .before .before .row-there .ensures) ∙ not-false _ (c .before .if1 .left)) (c .if2 .left)
 
 row-there-requires : tie.Need-row-there-requires
@@ -20,7 +20,7 @@ returns : tie.Need-returns
 returns c = not-taken _ _ _ _ (take-there _ _ _ _ (sym (c .before .row-there .ensures) ∙ not-true _ (c .if1 .taken)))
 
 returns-2 : tie.Need-returns-2
-returns-2 c = not-taken _ _ _ _ (take-places _ _ _ _ (c .if2 .taken))
+returns-2 c = not-taken _ _ _ _ (take-slots _ _ _ _ (c .if2 .taken))
 
 take-fields-requires : tie.Need-take-fields-requires
 take-fields-requires c κs = can (c .before)

@@ -4,7 +4,7 @@ use mathlib.Core.Path.{_≡_}
 use Prim.Native.Nat.{ℕ, zero, suc, _≤_, _<_}
 use lib.ListN.{length, take}
 use Rattle.sheet.specs.Constants.{most-tasks, most-frames}
-use Rattle.analysis.specs.Findings.{found}
+use Rattle.analysis.specs.Findings.{finding-in}
 use Rattle.analysis.specs.declared.Analysis.{Analysis}
 use Rattle.analysis.specs.declared.Finding.{Finding}
 use Rattle.report_text.specs.Words.{decimal, line}
@@ -22,7 +22,7 @@ finding-line f =
 -- the first n lines
 unfoldable pub finding-lines : Analysis → ℕ → List ℕ
 finding-lines a zero = []
-finding-lines a (suc n) = finding-lines a n ++ finding-line (found a n)
+finding-lines a (suc n) = finding-lines a n ++ finding-line (finding-in a n)
 
 -- within the sheet's limits
 pub record Printable (f : Finding) : Type 0 where
@@ -33,4 +33,4 @@ pub record Printable (f : Finding) : Type 0 where
 
 pub record AllPrintable (a : Analysis) : Type 0 where
   pub few-tasks : a .«task_count» ≤ most-tasks
-  pub each : (p : ℕ) → p < a .«task_count» → Printable (found a p)
+  pub each : (p : ℕ) → p < a .«task_count» → Printable (finding-in a p)

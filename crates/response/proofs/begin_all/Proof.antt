@@ -1,4 +1,4 @@
--- `begin_all` meets its contract: the places passed hold what they are to hold.
+-- `begin_all` meets its contract: the slots passed hold what they are to hold.
 use mathlib.Core.Path.{_≡_}
 use Prim.Native.Nat.{_-_, _≤_, min}
 use native.Mathlib.Omega.{arith}

@@ -30,18 +30,18 @@ mul-found c = search needs
 element-copy-out-found : tie.Need-element-copy-out-found Inv-loop μ-loop
 element-copy-out-found c = omega (arith, c .before .before .before .pre .0 .few)
 
-cast-put-task : tie.Need-cast-put-task Inv-loop μ-loop
-cast-put-task c = search needs
+cast-put-task-times : tie.Need-cast-put-task-times Inv-loop μ-loop
+cast-put-task-times c = search needs
 
-mul-put-task : tie.Need-mul-put-task Inv-loop μ-loop
-mul-put-task c =
+mul-put-task-times : tie.Need-mul-put-task-times Inv-loop μ-loop
+mul-put-task-times c =
     let k = c .before .before .before .before .before in
     let h = k .before .before .pre .0 in
     let below = number-below (k .before .before .args .t1) h (k .loop .p) (omega arith) in
     record { fits = omega (arith, below, h .few) }
 
-put-task-requires : tie.Need-put-task-requires Inv-loop μ-loop
-put-task-requires c κs =
+put-task-times-requires : tie.Need-put-task-times-requires Inv-loop μ-loop
+put-task-times-requires c κs =
     let k = c .before .before .before .before .before in
     let h = k .before .before .pre .0 in
     let below = number-below (k .before .before .args .t1) h (k .loop .p) (omega arith) in
@@ -59,7 +59,7 @@ loop-again c =
     let a = k .before .before .args in
     let h = k .before .before .pre in
     let step = numbers-more (a .t1) (h .0) (now (a .bytes)) (h .1) (k .loop .bytes) (k .loop .p) (omega arith) (k .loop .inv .2) in
-    (search needs, refl, rw (c .before .before .put-task .ensures) step)
+    (search needs, refl, rw (c .before .before .put-task-times .ensures) step)
 
 same-length : tie.Need-same-length Inv-loop μ-loop
 same-length c = c .before .loop .inv .2 .long
@@ -82,9 +82,9 @@ put-times-spec =
     loop-holds
     mul-found
     element-copy-out-found
-    cast-put-task
-    mul-put-task
-    put-task-requires
+    cast-put-task-times
+    mul-put-task-times
+    put-task-times-requires
     add-p
     loop-less
     loop-again

@@ -9,7 +9,7 @@ use Rattle.writer.proofs.Whole.{header-room, records-room, whole}
 use Rattle.writer.proofs.put_sheet.Statement.{statement}
 use Rattle.writer.proofs.put_sheet.Tie as tie
 
--- the array of a set's records has its sixteen places
+-- the array of a set's records has its sixteen slots
 long : (c : tie.Start) → length (c .args .set .tasks) ≡ most-tasks
 long c = simp length-map at (c .good .1 .0 .1 .1 .1 .1 .0 .1 .0 .1)
 

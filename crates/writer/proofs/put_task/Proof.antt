@@ -10,7 +10,7 @@ use Rattle.writer.proofs.Tasks.{fixed-can, frames-can, rows-placed}
 use Rattle.writer.proofs.put_task.Statement.{statement}
 use Rattle.writer.proofs.put_task.Tie as tie
 
--- the array of a record's frames has its eight places
+-- the array of a record's frames has its eight slots
 long : (c : tie.Start) → length (c .args .task .frames) ≡ most-frames
 long c = search needs
 
@@ -35,8 +35,8 @@ cast-count c = search needs
 frame-widths-requires : tie.Need-frame-widths-requires
 frame-widths-requires c κs = search needs
 
-array-share-prefix-places : tie.Need-array-share-prefix-places
-array-share-prefix-places c = search needs
+array-share-prefix-per-frame : tie.Need-array-share-prefix-per-frame
+array-share-prefix-per-frame c = search needs
 
 slice-aggregate-put-3 : tie.Need-slice-aggregate-put-3
 slice-aggregate-put-3 c =
@@ -85,7 +85,7 @@ put-task-spec =
     put-requires
     cast-count
     frame-widths-requires
-    array-share-prefix-places
+    array-share-prefix-per-frame
     slice-aggregate-put-3
     array-share-prefix-frames
     slice-aggregate-put-4

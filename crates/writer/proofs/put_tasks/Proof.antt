@@ -16,7 +16,7 @@ Inv-loop bytes₀ at set count next₀ i₀ bytes next i = Stand bytes₀ at set
 abbrev μ-loop : tie.MeasureT-loop
 μ-loop bytes₀ at set count next₀ i₀ bytes next i = set .«task_count» - i
 
--- the array of a set's records has its sixteen places
+-- the array of a set's records has its sixteen slots
 long : (c : tie.Start Inv-loop μ-loop) → length (c .args .t3 .tasks) ≡ most-tasks
 long c = simp length-map at (c .good .1 .1 .0 .1 .1 .1 .1 .0 .1 .0 .1)
 

@@ -16,7 +16,7 @@ Inv-loop set count bits₀ i₀ bits i = Counted set i bits
 abbrev μ-loop : tie.MeasureT-loop
 μ-loop set count bits₀ i₀ bits i = set .«task_count» - i
 
--- the array of a set's records has its sixteen places
+-- the array of a set's records has its sixteen slots
 long : (c : tie.Start Inv-loop μ-loop) → length (c .args .t1 .tasks) ≡ most-tasks
 long c = simp length-map at (c .good .0 .1 .1 .1 .1 .0 .1 .0 .1)
 
@@ -67,11 +67,11 @@ loop-again c =
     let a = t .before .before .before .before .before in
     counted-more _ (a .pre) (long a) (t .before .loop .inv) _ (t .loop-test .taken) _ (c .task-width .ensures)
 
-record-size-requires : tie.Need-record-size-requires Inv-loop μ-loop
-record-size-requires c κs = search needs
+sealed-size-requires : tie.Need-sealed-size-requires Inv-loop μ-loop
+sealed-size-requires c κs = search needs
 
 returns : tie.Need-returns Inv-loop μ-loop
-returns c = c .record-size .ensures ∙ counted-size _ (c .before .before .loop .inv) (c .before .loop-test .left)
+returns c = c .sealed-size .ensures ∙ counted-size _ (c .before .before .loop .inv) (c .before .loop-test .left)
 
 pub sheet-size-spec : {M : Type 1} → statement M
 sheet-size-spec =
@@ -91,5 +91,5 @@ sheet-size-spec =
     add-i
     loop-less
     loop-again
-    record-size-requires
+    sealed-size-requires
     returns)

@@ -9,7 +9,7 @@ use Rattle.writer.proofs.Tasks.{width-small, width-is}
 use Rattle.writer.proofs.task_width.Statement.{statement}
 use Rattle.writer.proofs.task_width.Tie as tie
 
--- the array of a record's frames has its eight places
+-- the array of a record's frames has its eight slots
 long : (c : tie.Start) → length (c .args .task .frames) ≡ most-frames
 long c = search needs
 
@@ -28,8 +28,8 @@ cast-count c = search needs
 frame-widths-requires : tie.Need-frame-widths-requires
 frame-widths-requires c κs = search needs
 
-array-share-prefix-places : tie.Need-array-share-prefix-places
-array-share-prefix-places c = search needs
+array-share-prefix-per-frame : tie.Need-array-share-prefix-per-frame
+array-share-prefix-per-frame c = search needs
 
 slice-aggregate-width-of-2 : tie.Need-slice-aggregate-width-of-2
 slice-aggregate-width-of-2 c =
@@ -67,7 +67,7 @@ task-width-spec =
     width-of-requires
     cast-count
     frame-widths-requires
-    array-share-prefix-places
+    array-share-prefix-per-frame
     slice-aggregate-width-of-2
     width-of-requires-2
     add-result

@@ -32,8 +32,8 @@ answer c =
     let a = c .before .before .before .args in
     c .respond .ensures ∙ ap (response-to (a .above) (a .blocked) (c .before .before .largest-time .result)) (c .before .shortest-deadline .ensures)
 
-times-of-requires : tie.Need-times-of-requires
-times-of-requires c κs = ap as-written (sym (c .before .t .given .1) ∙ answer (c .before .before .before))
+times-to-requires : tie.Need-times-to-requires
+times-to-requires c κs = ap as-written (sym (c .before .t .given .1) ∙ answer (c .before .before .before))
 
 finding-requires : tie.Need-finding-requires
 finding-requires c κs = search needs
@@ -50,7 +50,7 @@ returns c =
     let r = k .before .before .before in
     let a = r .before .before .before .args in
     c .finding .ensures
-    ∙ ap (λ (ts : List ℕ). finding-with (a .number) (a .blocked) (task-in (a .task)) true ts) (c .before .times-of .ensures)
+    ∙ ap (λ (ts : List ℕ). finding-with (a .number) (a .blocked) (task-in (a .task)) true ts) (c .before .times-to .ensures)
     ∙ sym (finding-there (a .above) (a .number) (a .blocked) (a .task) _
     (ap (λ (x : ℕ). response-to (a .above) (a .blocked) x (shortest-deadline (task-in (a .task)))) (sym (r .before .before .largest-time .ensures))
     ∙ sym (answer r) ∙ k .before .t .given .1))
@@ -72,7 +72,7 @@ finding-of-spec =
     shortest-deadline-requires
     respond-requires
     enum-known-t
-    times-of-requires
+    times-to-requires
     finding-requires
     enum-told
     finding-requires-2

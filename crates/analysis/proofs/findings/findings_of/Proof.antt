@@ -60,8 +60,8 @@ mul-findings c = search needs
 array-set-from-findings : tie.Need-array-set-from-findings Inv-loop μ-loop
 array-set-from-findings c = omega arith
 
-start-of-requires : tie.Need-start-of-requires Inv-loop μ-loop
-start-of-requires c κs = search needs
+start-or-zero-requires : tie.Need-start-or-zero-requires Inv-loop μ-loop
+start-or-zero-requires c κs = search needs
 
 mul-h : tie.Need-mul-h Inv-loop μ-loop
 mul-h c = search needs
@@ -93,7 +93,7 @@ loop-again c =
       at .loop .inv .1,
       at .loop .inv .2,
       grown-more o (at .before .before .before .before .before .before .pre) few _ _ p _ _ _ _ _ inside (at .loop .inv .3)
-          (task-is o p _ inside (n .1)) refl (c .before .before .blocking .ensures) (c .before .finding-of .ensures) (c .start-of .ensures),
+          (task-is o p _ inside (n .1)) refl (c .before .before .blocking .ensures) (c .before .finding-of .ensures) (c .start-or-zero .ensures),
     )
 
 returns : tie.Need-returns Inv-loop μ-loop
@@ -120,7 +120,7 @@ findings-of-spec =
     finding-of-requires
     mul-findings
     array-set-from-findings
-    start-of-requires
+    start-or-zero-requires
     mul-h
     element-set-from-h
     cast-above

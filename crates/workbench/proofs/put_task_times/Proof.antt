@@ -1,4 +1,4 @@
--- `put_task` meets its contract: after k times, these stand from the place on.
+-- `put_task_times` meets its contract: after k times, these stand from the position on.
 use mathlib.Core.List.{List, _++_}
 use mathlib.Core.Path.{_≡_, refl, sym, ap, _∙_}
 use Prim.Native.Nat.{ℕ, _≤_, _<_, _-_, _*_, _+_}
@@ -10,8 +10,8 @@ use Rattle.sheet.specs.Constants.{most-frames}
 use Rattle.workbench.specs.Entry.{time-size, task-size}
 use Rattle.workbench.proofs.Four.{fours, none-put, length-fours, fours-more, all-put}
 use borrow.Author.Needs.{needs}
-use Rattle.workbench.proofs.put_task.Statement.{statement}
-use Rattle.workbench.proofs.put_task.Tie as tie
+use Rattle.workbench.proofs.put_task_times.Statement.{statement}
+use Rattle.workbench.proofs.put_task_times.Tie as tie
 
 abbrev Inv-loop : tie.InvT-loop
 Inv-loop bytes₀ at times k₀ bytes k =
@@ -72,8 +72,8 @@ same-length c =
 returns : tie.Need-returns Inv-loop μ-loop
 returns c = let v = c .before .loop .inv in v .3 ∙ all-put _ _ _ _ (omega arith) (v .1)
 
-pub put-task-spec : {M : Type 1} → statement M
-put-task-spec =
+pub put-task-times-spec : {M : Type 1} → statement M
+put-task-times-spec =
     tie.close
     (tie.spec
     Inv-loop

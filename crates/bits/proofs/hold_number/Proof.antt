@@ -1,14 +1,14 @@
--- `put_number` meets its contract: after i bytes, the first i are those of the number and the others as they were.
+-- `hold_number` meets its contract: after i bytes, the first i are those of the number and the others as they were.
 use mathlib.Core.Path.{_≡_, refl, ap, _∙_}
 use Prim.Native.Nat.{_≤_, _-_}
 use native.Mathlib.Omega.{arith}
 use borrow.Author.Needs.{needs}
 use lib.ListN.{length}
 use Rattle.bits.proofs.Numbers.{written, none-written, length-written, written-more, all-written}
-use Rattle.bits.proofs.put_number.Statement.{statement}
-use Rattle.bits.proofs.put_number.Tie as tie
-use Rattle.bits.proofs.put_number.Reads as reads
-use Rattle.bits.proofs.put_number.Lts as lts
+use Rattle.bits.proofs.hold_number.Statement.{statement}
+use Rattle.bits.proofs.hold_number.Tie as tie
+use Rattle.bits.proofs.hold_number.Reads as reads
+use Rattle.bits.proofs.hold_number.Lts as lts
 
 abbrev Inv-loop : tie.InvT-loop
 Inv-loop bytes₀ n count i₀ bytes i =
@@ -54,8 +54,8 @@ same-length c = ap length (c .before .loop .inv .2) ∙ length-written _ _ _ (c 
 returns : tie.Need-returns Inv-loop μ-loop
 returns c = c .before .loop .inv .2 ∙ all-written _ _ _ (omega arith)
 
-pub put-number-spec : {M : Type 1} → statement M
-put-number-spec =
+pub hold-number-spec : {M : Type 1} → statement M
+hold-number-spec =
     tie.close
     (tie.spec
     Inv-loop

@@ -1,4 +1,4 @@
--- `times_of` meets its contract: after k frames, the first k times stand.
+-- `times_to` meets its contract: after k frames, the first k times stand.
 use mathlib.Core.Path.{_≡_, sym, ap, _∙_}
 use Prim.Native.Nat.{ℕ, _≤_, _<_, _-_}
 use mathlib.Core.Logic.{⊎-elim}
@@ -10,10 +10,10 @@ use Rattle.sheet.specs.Tasks.{task-in}
 use Rattle.response.specs.Response.{response-to}
 use Rattle.analysis.specs.Inside.Steps.{as-written}
 use Rattle.order.proofs.Filled.{filled, none-filled}
-use Rattle.analysis.proofs.ByPlace.{times-in, one-deadline, up-to-more, up-to-all, places-to}
+use Rattle.analysis.proofs.ByPlace.{times-in, one-deadline, up-to-more, up-to-all, slots-to}
 use borrow.Author.Needs.{needs}
-use Rattle.analysis.proofs.findings.times_of.Statement.{statement}
-use Rattle.analysis.proofs.findings.times_of.Tie as tie
+use Rattle.analysis.proofs.findings.times_to.Statement.{statement}
+use Rattle.analysis.proofs.findings.times_to.Tie as tie
 
 abbrev Inv-loop : tie.InvT-loop
 Inv-loop above blocked task largest known frames count times₀ k₀ times k =
@@ -46,8 +46,8 @@ deadline-of-requires c κs = search needs
 respond-requires : tie.Need-respond-requires Inv-loop μ-loop
 respond-requires c κs = search needs
 
-written-requires : tie.Need-written-requires Inv-loop μ-loop
-written-requires c κs = search needs
+as-written-requires : tie.Need-as-written-requires Inv-loop μ-loop
+as-written-requires c κs = search needs
 
 mul-times-2 : tie.Need-mul-times-2 Inv-loop μ-loop
 mul-times-2 c = search needs
@@ -89,10 +89,10 @@ returns c =
     let room = c .before .loop .inv .2 in
     c .before .loop .inv .3
     ∙ up-to-all (a .above) (a .blocked) (shortest-deadline (task-in (a .task))) n (a .task .frames) small room (c .before .loop .k) done
-    ∙ places-to (a .above) (a .blocked) (a .task) n (c .before .before .frames-in .ensures)
+    ∙ slots-to (a .above) (a .blocked) (a .task) n (c .before .before .frames-in .ensures)
 
-pub times-of-spec : {M : Type 1} → statement M
-times-of-spec =
+pub times-to-spec : {M : Type 1} → statement M
+times-to-spec =
     tie.close
     (tie.spec
     Inv-loop
@@ -105,7 +105,7 @@ times-of-spec =
     array-write-times
     deadline-of-requires
     respond-requires
-    written-requires
+    as-written-requires
     mul-times-2
     array-write-times-2
     add-k

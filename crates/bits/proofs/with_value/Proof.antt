@@ -1,10 +1,10 @@
--- `with_bits` meets its contract.
+-- `with_value` meets its contract.
 use borrow.Author.Needs.{needs}
 use Rattle.bits.proofs.Masks.{joined}
-use Rattle.bits.proofs.with_bits.Statement.{statement}
-use Rattle.bits.proofs.with_bits.Tie as tie
-use Rattle.bits.proofs.with_bits.Reads as reads
-use Rattle.bits.proofs.with_bits.Lts as lts
+use Rattle.bits.proofs.with_value.Statement.{statement}
+use Rattle.bits.proofs.with_value.Tie as tie
+use Rattle.bits.proofs.with_value.Reads as reads
+use Rattle.bits.proofs.with_value.Lts as lts
 use Rattle.bits.proofs.low_bits.Reads as low-bits-reads
 
 add-above : tie.Need-add-above
@@ -31,7 +31,7 @@ returns c =
     let h = c .before .pre in
     rw (c .low-bits .ensures) (joined (a .n) (a .width) (a .past) (a .v) (h .0) (h .1) (h .2) (h .3))
 
-pub with-bits-spec : {M : Type 1} → statement M
-with-bits-spec =
+pub with-value-spec : {M : Type 1} → statement M
+with-value-spec =
     tie.close
     (tie.spec add-above shr-above add-above-2 shl-above shl-result low-bits-requires returns)

@@ -1,11 +1,11 @@
--- `answered` meets its contract.
+-- `read_answer` meets its contract.
 use native.Mathlib.Omega.{arith}
 use Rattle.lists.proofs.Laws.{reading-refused, list-short, list-long}
 use borrow.Author.Needs.{needs}
-use Rattle.lists.proofs.answered.Statement.{statement}
-use Rattle.lists.proofs.answered.Tie as tie
-use Rattle.lists.proofs.answered.Reads as reads
-use Rattle.lists.proofs.answered.Lts as lts
+use Rattle.lists.proofs.read_answer.Statement.{statement}
+use Rattle.lists.proofs.read_answer.Tie as tie
+use Rattle.lists.proofs.read_answer.Reads as reads
+use Rattle.lists.proofs.read_answer.Lts as lts
 
 enum-known-answer : tie.Need-enum-known-answer
 enum-known-answer c = search needs
@@ -25,6 +25,6 @@ returns-2 c = reading-refused _ _ _ (c .before .answer .given .1)
 returns-3 : tie.Need-returns-3
 returns-3 c = list-long _ _ (c .before .before .enum-told .given .1) (omega arith)
 
-pub answered-spec : {M : Type 1} → statement M
-answered-spec =
+pub read-answer-spec : {M : Type 1} → statement M
+read-answer-spec =
     tie.close (tie.spec enum-known-answer enum-told cast-if1 returns returns-2 returns-3)

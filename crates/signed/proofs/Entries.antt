@@ -91,21 +91,21 @@ sound-sheet s e =
     record { carried = by-reading s a; admitted = admitted-sheet-is-admitted s a }
 
 -- `analyse_set`
-pub set-door : (s : TaskSet) (before : List ℕ) → length (s .tasks) ≡ most-tasks
+pub set-entry : (s : TaskSet) (before : List ℕ) → length (s .tasks) ≡ most-tasks
     → Analysed (s .policy) (map task-in (records-of s)) in-numbers before (set-outcome s before) (set-left s before)
 unfolding set-outcome set-left set-analysing
-set-door s before sixteen = analysed (list-checks (s .policy) (s .«task_count») (records-of s)) (s .policy) (map task-in (records-of s)) before (sound-set s sixteen)
+set-entry s before sixteen = analysed (list-checks (s .policy) (s .«task_count») (records-of s)) (s .policy) (map task-in (records-of s)) before (sound-set s sixteen)
 
 -- `analyse_sheet`
-pub sheet-door : (s before : List ℕ) → Analysed (policy-of s) (tasks-of s) in-numbers before (sheet-outcome s before) (sheet-left s before)
+pub sheet-entry : (s before : List ℕ) → Analysed (policy-of s) (tasks-of s) in-numbers before (sheet-outcome s before) (sheet-left s before)
 unfolding sheet-outcome sheet-left sheet-analysing
-sheet-door s before = analysed (sheet-checks s) (policy-of s) (tasks-of s) before (sound-sheet s)
+sheet-entry s before = analysed (sheet-checks s) (policy-of s) (tasks-of s) before (sound-sheet s)
 
 -- `burrbeech_check_sheet`: the number of an outcome
-pub check-door : (s before : List ℕ)
+pub check-entry : (s before : List ℕ)
     → (outcome : Outcome) × (entry-number s before ≡ code outcome) × Analysed (policy-of s) (tasks-of s) in-bytes before outcome (entry-left s before)
 unfolding entry-number entry-left checking
-check-door s before = go (told Room number-of (checking s) before)
+check-entry s before = go (told Room number-of (checking s) before)
   where
     go : Told Room number-of (checking s) before
         → (outcome : Outcome) × (entry-number s before ≡ code outcome) × Analysed (policy-of s) (tasks-of s) in-bytes before outcome (entry-left s before)
@@ -135,10 +135,10 @@ module _ (policy : ℕ) (list : List Record) where
       rw all-in-use at (sound-set as-set sixteen same)
 
 -- `analyse_list`
-pub list-door : (policy : ℕ) (list : List Record) (before : List ℕ)
+pub list-entry : (policy : ℕ) (list : List Record) (before : List ℕ)
     → Analysed policy (map task-in list) in-numbers before (list-analysed policy list before) (list-times policy list before)
 unfolding list-analysed list-times analysing-list
-list-door policy list before = analysed (list-checks policy (length list) list) policy (map task-in list) before (sound-list policy list)
+list-entry policy list before = analysed (list-checks policy (length list) list) policy (map task-in list) before (sound-list policy list)
 
 -- `read_list` is refused and leaves the list as it was, or a record for each task of the sheet stands first.
 pub data Read (sheet : List ℕ) (before : List Record) : ListRead → List Record → Type 0 where
@@ -147,9 +147,9 @@ pub data Read (sheet : List ℕ) (before : List Record) : ListRead → List Reco
       → Read sheet before (Set (policy-of sheet) (length (tasks-of sheet))) (laid (map record-of (tasks-of sheet)) before)
 
 module _ (sheet : List ℕ) (before : List Record) where
-  pub read-door : Read sheet before (list-read sheet before) (list-filled sheet before)
+  pub read-entry : Read sheet before (list-read sheet before) (list-filled sheet before)
   unfolding list-read list-filled reading-list
-  read-door = go (told Room not-read (reading-list sheet) before)
+  read-entry = go (told Room not-read (reading-list sheet) before)
     where
       go : Told Room not-read (reading-list sheet) before → Read sheet before (list-read sheet before) (list-filled sheet before)
       go (turned-away r t) = rw (t .answer, t .unchanged) (no-read r)
@@ -180,9 +180,9 @@ pub data Wrote (policy : ℕ) (list : List Record) (before : List ℕ) : Written
       → Wrote policy list before (Bytes (length (sheet-of policy (map task-in list)))) (laid (sheet-of policy (map task-in list)) before)
 
 module _ (policy : ℕ) (list : List Record) (before : List ℕ) where
-  pub write-door : Wrote policy list before (list-written policy list before) (list-left policy list before)
+  pub write-entry : Wrote policy list before (list-written policy list before) (list-left policy list before)
   unfolding list-written list-left writing-list
-  write-door = go (told Room not-written (writing-list policy list) before)
+  write-entry = go (told Room not-written (writing-list policy list) before)
     where
       go : Told Room not-written (writing-list policy list) before → Wrote policy list before (list-written policy list before) (list-left policy list before)
       go (turned-away r t) = rw (t .answer, t .unchanged) (no-write r)
@@ -223,9 +223,9 @@ reports s a =
     (sound-sheet s (none-applies (sheet-checks s) e), rw (e, lines-printed (policy-of s) (tasks-of s) (outcome-of (policy-of s) (tasks-of s)) refl))
 
 -- `report_text`
-pub report-door : (s : List ℕ) → Reported (policy-of s) (tasks-of s) (report s)
+pub report-entry : (s : List ℕ) → Reported (policy-of s) (tasks-of s) (report s)
 unfolding report
-report-door s = go (decided (sheet-checks s)) refl
+report-entry s = go (decided (sheet-checks s)) refl
   where
     go : (a : Answer) → decided (sheet-checks s) ≡ a
         → Reported (policy-of s) (tasks-of s) (first-line (outcome-by a (policy-of s) (tasks-of s)) (length (tasks-of s)) ++ lines-behind (outcome-by a (policy-of s) (tasks-of s)) (policy-of s) (tasks-of s))

@@ -1,4 +1,4 @@
--- An array that is filled from the front: what was put so far, and the same blank value in every place behind it.
+-- An array that is filled from the front: what was put so far, and the same blank value in every slot behind it.
 use mathlib.Core.List.{List, [], _∷_, _++_, map}
 use mathlib.Core.Path.{_≡_, refl, sym, ap, _∙_}
 use Prim.Native.Nat.{ℕ, suc, _-_, _<_}

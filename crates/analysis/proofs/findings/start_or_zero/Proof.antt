@@ -1,4 +1,4 @@
--- `start_of` meets its contract.
+-- `start_or_zero` meets its contract.
 use mathlib.Core.Path.{_≡_, refl, sym, ap, _∙_}
 use mathlib.Core.Option.{Option, none, some, Option·getD}
 use Prim.Native.Nat.{ℕ}
@@ -8,8 +8,8 @@ use Rattle.admission.specs.Start.{start-of, start-found}
 use Rattle.admission.specs.declared.Start.{Start}
 use Rattle.admission.specs.declared.Start.the-variants.{At, Nowhere}
 use borrow.Author.Needs.{needs}
-use Rattle.analysis.proofs.findings.start_of.Statement.{statement}
-use Rattle.analysis.proofs.findings.start_of.Tie as tie
+use Rattle.analysis.proofs.findings.start_or_zero.Statement.{statement}
+use Rattle.analysis.proofs.findings.start_or_zero.Tie as tie
 
 start-frame-requires : tie.Need-start-frame-requires
 start-frame-requires c κs = search needs
@@ -39,5 +39,5 @@ returns c = ap number (sym (c .before .s .given .1)) ∙ ap number (c .before .b
 returns-2 : tie.Need-returns-2
 returns-2 c = ap number (sym (c .enum-told .given .1)) ∙ ap number (c .before .before .start-frame .ensures) ∙ start-number _
 
-pub start-of-spec : {M : Type 1} → statement M
-start-of-spec = tie.close (tie.spec start-frame-requires enum-known-s enum-told returns returns-2)
+pub start-or-zero-spec : {M : Type 1} → statement M
+start-or-zero-spec = tie.close (tie.spec start-frame-requires enum-known-s enum-told returns returns-2)
