@@ -1,11 +1,14 @@
 -- The answers to a task, to a row of tasks and to a list, check by check.
-use mathlib.Core.Bool.{true, false, not, _&&_}
+use mathlib.Core.Bool.{Bool, true, false, not, _&&_}
 use mathlib.Core.List.{List, [], _∷_, _++_, map}
+use mathlib.Core.Option.{Option, Option·getD}
 use mathlib.Core.Path.{_≡_, refl, sym, ap, _∙_}
 use Prim.Native.Nat.{ℕ, suc, _+_, _≤_, _<_}
 use native.Mathlib.Numerals.{add-one}
+use native.Mathlib.Omega.{arith}
+use lib.Dec.{leb}
 use lib.ListN.{length, getD, take}
-use Rattle.theory.specs.Tasks.{Task}
+use Rattle.theory.specs.Tasks.{Task, largest, start-frame}
 use Rattle.theory.proofs.Search.{some-found, none-found}
 use Rattle.sheet.specs.Constants.{most-tasks, most-frames}
 use Rattle.sheet.specs.Tasks.{task-in, records-of}
@@ -19,7 +22,13 @@ use Rattle.sheet.specs.declared.Refusal.{Refusal}
 use Rattle.sheet.specs.declared.Refusal.the-variants.{Policy, TaskCount, FrameCount, IllFormed, Lock, NotMonotonic}
 use Rattle.sheet.proofs.Checks.{applies, passed-over, no-check, admitted-first, refused-first}
 use Rattle.admission.specs.declared.Start.the-variants.{At, Nowhere}
+use Rattle.admission.specs.declared.TaskAnswer.{TaskAnswer}
+use Rattle.admission.specs.declared.TaskAnswer.the-variants.{Shaped, TurnedAway}
+use Rattle.admission.specs.declared.Shape.{Shape}
+use Rattle.admission.specs.declared.Judged.{Judged}
 use Rattle.admission.specs.Start.{start-of}
+use Rattle.admission.specs.Judged.{shape-of, shapes-of, turned-away, judged}
+use Rattle.admission.specs.Inside.Steps.{by-answer, task-answer}
 use Rattle.admission.proofs.Starts.{found-at, found-nowhere}
 use Rattle.admission.proofs.Remaining.{remaining, all-remain, one-remains, none-remain}
 
@@ -31,31 +40,48 @@ module _ (i : ℕ) (t : Task) (ts : List Task) where
   unfolding task-checks
   task-first = refl
 
-  pub ill-formed : (in-range t && well-formed t) ≡ false → decided (task-checks i (t ∷ ts)) ≡ Refused (IllFormed i)
+module _ (i : ℕ) (t : Task) where
+  by-checks : (a : Answer) → decided (task-checks i (t ∷ [])) ≡ a → by-answer a t ≡ task-answer i t
+  unfolding task-answer
+  by-checks a e = ap (λ (x : Answer). by-answer x t) (sym e)
+
+  pub ill-formed : (in-range t && well-formed t) ≡ false → TurnedAway (IllFormed i) ≡ task-answer i t
   unfolding task-checks
-  ill-formed e = applies _ _ _ (ap not e)
+  ill-formed e = by-checks (Refused (IllFormed i)) (applies _ _ _ (ap not e))
 
-  module _ (fits : (in-range t && well-formed t) ≡ true) where
-    pub lock-above : lock-fits t ≡ false → decided (task-checks i (t ∷ ts)) ≡ Refused (Lock i)
+  module _ (formed : (in-range t && well-formed t) ≡ true) (most : ℕ) (most-is : most ≡ largest (t .frames)) where
+    locks : (b : Bool) → leb (t .lock) most ≡ b → lock-fits t ≡ b
+    unfolding lock-fits
+    locks b e = rw (← most-is) e
+
+    pub lock-above : leb (t .lock) most ≡ false → TurnedAway (Lock i) ≡ task-answer i t
     unfolding task-checks
-    lock-above e = passed-over _ _ _ (ap not fits) ∙ applies _ _ _ (ap not e)
+    lock-above e = by-checks (Refused (Lock i)) (passed-over _ _ _ (ap not formed) ∙ applies _ _ _ (ap not (locks false e)))
 
-    module _ (below : lock-fits t ≡ true) where
-      to-the-third : decided (task-checks i (t ∷ ts)) ≡ decided ((not (monotonic t) ⇒ NotMonotonic i) ∷ task-checks (suc i) ts)
+    module _ (fits : leb (t .lock) most ≡ true) where
+      to-the-third : decided (task-checks i (t ∷ [])) ≡ decided ((not (monotonic t) ⇒ NotMonotonic i) ∷ [])
       unfolding task-checks
-      to-the-third = passed-over _ _ _ (ap not fits) ∙ passed-over _ _ _ (ap not below)
+      to-the-third = passed-over _ _ _ (ap not formed) ∙ passed-over _ _ _ (ap not (locks true fits))
 
-      pub no-start : start-of t ≡ Nowhere → decided (task-checks i (t ∷ ts)) ≡ Refused (NotMonotonic i)
+      pub no-start : start-of t ≡ Nowhere → TurnedAway (NotMonotonic i) ≡ task-answer i t
       unfolding start-of monotonic
-      no-start e = to-the-third ∙ applies _ _ _ (ap not (none-found (found-nowhere _ e)))
+      no-start e = by-checks (Refused (NotMonotonic i)) (to-the-third ∙ applies _ _ _ (ap not (none-found (found-nowhere _ e))))
 
-      pub passed : (s : ℕ) → start-of t ≡ At s → decided (task-checks i (t ∷ ts)) ≡ decided (task-checks (suc i) ts)
-      unfolding start-of monotonic
-      passed s e = to-the-third ∙ passed-over _ _ _ (ap not (some-found (found-at _ s e)))
+      pub with-start : (s : ℕ) → start-of t ≡ At s → Shaped (record { start = s; largest = most }) ≡ task-answer i t
+      unfolding start-of monotonic start-frame shape-of
+      with-start s e =
+          let start = found-at _ s e in
+          rw (most-is, ← ap (λ (o : Option ℕ). Option·getD o 0) start)
+          (by-checks Admitted (to-the-third ∙ passed-over _ _ _ (ap not (some-found start)) ∙ no-check))
 
-pub no-more : (i : ℕ) → decided (task-checks i []) ≡ Admitted
-unfolding task-checks
-no-more i = no-check
+-- a task's answer, from what it told
+told-shape : (a : Answer) (t : Task) (shape : Shape) → by-answer a t ≡ Shaped shape → (a ≡ Admitted) × (shape ≡ shape-of t)
+told-shape Admitted t shape e = (refl, cc)
+told-shape (Refused why) t shape e = let z : _≡_ {A = ℕ} 0 1 = cc in let y : ⊥ = omega arith in absurd y
+
+told-why : (a : Answer) (t : Task) (why : Refusal) → by-answer a t ≡ TurnedAway why → a ≡ Refused why
+told-why Admitted t why e = let z : _≡_ {A = ℕ} 0 1 = cc in let y : ⊥ = omega arith in absurd y
+told-why (Refused r) t why e = ap Refused (cc)
 
 -- ---- task by task
 
@@ -84,13 +110,17 @@ module _ (records : List Record) (count : ℕ) where
           rw (one-remains records count there i d h, add-one i)
           (ap decided (task-first i (task-in (getD records i d)) (map task-in (remaining records count (suc i)))))
 
-      module _ (a : Answer) (e : a ≡ decided (task-checks i (task-in (getD records i d) ∷ []))) where
-        pub tasks-pass : a ≡ Admitted → tasks-left records count (i + 1) ≡ tasks-left records count i
-        unfolding tasks-left
-        tasks-pass p = sym (task-turn ∙ admitted-first _ _ (sym e ∙ p))
+      module _ (a : TaskAnswer) (e : a ≡ task-answer i (task-in (getD records i d))) where
+        pub tasks-pass : (shape : Shape) → a ≡ Shaped shape
+            → (tasks-left records count (i + 1) ≡ tasks-left records count i) × (shape ≡ shape-of (task-in (getD records i d)))
+        unfolding tasks-left task-answer
+        tasks-pass shape p =
+            let told = told-shape _ (task-in (getD records i d)) shape (sym e ∙ p) in
+            (sym (task-turn ∙ admitted-first _ _ (told .0)), told .1)
 
-        pub tasks-refuse : (r : Refusal) → a ≡ Refused r → tasks-left records count i ≡ Refused r
-        tasks-refuse r p = task-turn ∙ refused-first _ _ r (sym e ∙ p)
+        pub tasks-refuse : (why : Refusal) → a ≡ TurnedAway why → tasks-left records count i ≡ Refused why
+        unfolding task-answer
+        tasks-refuse why p = task-turn ∙ refused-first _ _ why (told-why _ (task-in (getD records i d)) why (sym e ∙ p))
 
       count-turn : counts-left records count i
           ≡ decided (frame-count-check i (getD records i d .«frame_count») ∷ frame-count-checks (i + 1) (remaining records count (i + 1)))
@@ -116,6 +146,27 @@ module _ (records : List Record) (count : ℕ) where
     pub counts-end : (i : ℕ) → count ≤ i → counts-left records count i ≡ Admitted
     unfolding counts-left frame-count-checks
     counts-end i h = rw (none-remain records count there i h) no-check
+
+-- ---- what was judged
+
+judged-answer : (a : Answer) (s : TaskSet) → judged a s .answer ≡ a
+unfolding judged turned-away
+judged-answer Admitted s = refl
+judged-answer (Refused why) s = refl
+
+-- the answer to a set, from what was judged
+pub judged-tells : (j : Judged) (a : Answer) (s : TaskSet) (b : Answer) → j ≡ judged a s → j .answer ≡ b → a ≡ b
+judged-tells j a s b e t = sym (ap (λ (x : Judged). x .answer) e ∙ judged-answer a s) ∙ t
+
+module _ (a : Answer) (s : TaskSet) where
+  pub judged-refused : (why : Refusal) → a ≡ Refused why → turned-away why ≡ judged a s
+  unfolding judged
+  judged-refused why e = rw e
+
+  pub judged-admitted : (shapes : List Shape) → a ≡ Admitted → shapes ≡ shapes-of (map task-in (records-of s))
+      → _≡_ {A = Judged} (record { answer = Admitted; set = s; shapes = shapes }) (judged a s)
+  unfolding judged
+  judged-admitted shapes e es = rw (e, es)
 
 -- ---- a list
 

@@ -6,4 +6,5 @@ pub mod Sums
 pub mod Starts
 pub mod Frames
 pub mod Fits
+pub mod Shapes
 pub mod Answers

@@ -1,2 +1,3 @@
 -- The words of the private contracts.
 pub mod Frames
+pub mod Steps

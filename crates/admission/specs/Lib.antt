@@ -1,3 +1,4 @@
--- What the start frame's search answers.
+-- What the start frame's search answers, and what is found of a set that is judged.
 pub mod Start
+pub mod Judged
 pub mod Inside

@@ -1,15 +1,17 @@
 // Admission of a task list by value: the start frame of a task, 9, 10 and 11 task by task, and the whole order for a list.
 ghost use mathlib.Core.Bool.{_&&_};
-ghost use mathlib.Core.List.{[], _∷_, map};
+ghost use mathlib.Core.List.{map};
 ghost use mathlib.Core.Path.{_≡_};
 ghost use Prim.Native.Nat.{_≤_, _<_};
 ghost use lib.ListN.{length, take};
 ghost use Rattle.theory.specs.Tasks.{largest, qualifies};
 ghost use Rattle.sheet.specs.Constants.{most-frames};
 ghost use Rattle.sheet.specs.Tasks.{task-in, records-of};
-ghost use Rattle.sheet.specs.Admission.{decided, in-range, well-formed, lock-fits, task-checks, frame-count-checks, admission};
+ghost use Rattle.sheet.specs.Admission.{decided, in-range, well-formed, task-checks, frame-count-checks, admission};
 ghost use Rattle.admission.specs.Start.{start-of};
+ghost use Rattle.admission.specs.Judged.{no-shape, turned-away, judged};
 ghost use Rattle.admission.specs.Inside.Frames.{of-frames, from-at-least, all-between};
+ghost use Rattle.admission.specs.Inside.Steps.{task-answer};
 use sheet::Answer;
 use sheet::Refusal;
 use sheet::Sheet;
@@ -20,6 +22,37 @@ use sheet::TaskSet;
 pub enum Start {
     At(u32),
     Nowhere,
+}
+
+// The shape of a task's frames: the start frame, and the largest frame time.
+pub struct Shape {
+    pub start: u32,
+    pub largest: u32,
+}
+
+impl Shape {
+    // Where there is no task.
+    pub fn blank() -> Shape
+        ensures { λ r. ⌜ r ≡ no-shape ⌝ }
+    {
+        Shape {
+            start: 0,
+            largest: 0,
+        }
+    }
+}
+
+// A set that was judged, with the shape of each task; beside a refusal stands a set with no task.
+pub struct Judged {
+    pub answer: Answer,
+    pub set: TaskSet,
+    pub shapes: [Shape; Sheet::TASK_ROOM],
+}
+
+// A task's shape, or why it is turned away.
+enum TaskAnswer {
+    Shaped(Shape),
+    TurnedAway(Refusal),
 }
 
 // Whether the sum from frame s is at least that from frame k, going round, for each length up to the number of frames.
@@ -132,7 +165,7 @@ fn well_formed(task: Task) -> bool
 }
 
 // The largest frame time of a task.
-pub fn largest_time(task: Task) -> u32
+fn largest_time(task: Task) -> u32
     ensures { λ r. ⌜ r ≡ largest (task-in task .frames) ⌝ }
 {
     let frames = task.frames;
@@ -140,45 +173,59 @@ pub fn largest_time(task: Task) -> u32
     largest(&frames, count)
 }
 
-// Whether the lock is at most the largest frame time.
-fn lock_fits(task: Task) -> bool
-    ensures { λ r. ⌜ r ≡ lock-fits (task-in task) ⌝ }
-{
-    task.lock <= largest_time(task)
-}
-
 // 9, 10, 11 of one task.
-fn task_answer(task: Task, number: u32) -> Answer
-    ensures { λ r. ⌜ r ≡ decided (task-checks number (task-in task ∷ [])) ⌝ }
+fn task_answer(task: Task, number: u32) -> TaskAnswer
+    ensures { λ r. ⌜ r ≡ task-answer number (task-in task) ⌝ }
 {
     let formed = well_formed(task);
-    let fits = lock_fits(task);
+    let largest = largest_time(task);
+    let fits = task.lock <= largest;
     if !formed {
-        return Answer::Refused(Refusal::IllFormed(number));
+        return TaskAnswer::TurnedAway(Refusal::IllFormed(number));
     }
     if !fits {
-        return Answer::Refused(Refusal::Lock(number));
+        return TaskAnswer::TurnedAway(Refusal::Lock(number));
     }
     match start_frame(task) {
-        Start::At(_) => Answer::Admitted,
-        Start::Nowhere => Answer::Refused(Refusal::NotMonotonic(number)),
+        Start::At(start) => TaskAnswer::Shaped(Shape { start, largest }),
+        Start::Nowhere => TaskAnswer::TurnedAway(Refusal::NotMonotonic(number)),
+    }
+}
+
+// What is turned away.
+pub fn refused(why: Refusal) -> Judged
+    ensures { λ r. ⌜ r ≡ turned-away why ⌝ }
+{
+    Judged {
+        answer: Answer::Refused(why),
+        set: TaskSet::blank(),
+        shapes: [Shape::blank(); Sheet::TASK_ROOM],
     }
 }
 
 // 9, 10, 11 task by task.
-pub fn admit_tasks(set: TaskSet) -> Answer
-    ensures { λ r. ⌜ r ≡ decided (task-checks 0 (map task-in (records-of set))) ⌝ }
+pub fn judge_tasks(set: TaskSet) -> Judged
+    ensures { λ r. ⌜ r ≡ judged (decided (task-checks 0 (map task-in (records-of set)))) set ⌝ }
 {
     let tasks = set.tasks;
     let count = sheet::tasks_in(set.task_count, tasks);
+    let mut shapes = [Shape::blank(); Sheet::TASK_ROOM];
     for i in 0..count {
         let task = tasks[i];
-        let answer = task_answer(task, i as u32);
-        if let Answer::Refused(refusal) = answer {
-            return Answer::Refused(refusal);
+        match task_answer(task, i as u32) {
+            TaskAnswer::TurnedAway(why) => {
+                return refused(why);
+            }
+            TaskAnswer::Shaped(shape) => {
+                shapes[i] = shape;
+            }
         }
     }
-    Answer::Admitted
+    Judged {
+        answer: Answer::Admitted,
+        set,
+        shapes,
+    }
 }
 
 // 7 task by task.
@@ -198,18 +245,18 @@ fn frame_counts(set: TaskSet) -> Answer
 }
 
 // The order for a list: 4, 6, 7 task by task, then task by task 9, 10, 11.
-pub fn admit(set: TaskSet) -> Answer
-    ensures { λ r. ⌜ r ≡ admission set ⌝ }
+pub fn admit(set: TaskSet) -> Judged
+    ensures { λ r. ⌜ r ≡ judged (admission set) set ⌝ }
 {
     if !sheet::known_policy(set.policy) {
-        return Answer::Refused(Refusal::Policy);
+        return refused(Refusal::Policy);
     }
     if sheet::miscounted(set.task_count, Sheet::MOST_TASKS) {
-        return Answer::Refused(Refusal::TaskCount);
+        return refused(Refusal::TaskCount);
     }
     let answer = frame_counts(set);
-    if let Answer::Refused(refusal) = answer {
-        return Answer::Refused(refusal);
+    if let Answer::Refused(why) = answer {
+        return refused(why);
     }
-    admit_tasks(set)
+    judge_tasks(set)
 }

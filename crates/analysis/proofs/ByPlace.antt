@@ -23,7 +23,7 @@ use Rattle.analysis.specs.Times.{number-at, times-from, slots-by, slots-
 use Rattle.analysis.specs.Findings.{finding-at, findings-from, findings-of}
 use Rattle.analysis.specs.Inside.Steps.{as-written, is-there, times-to, finding-with, finding-to}
 use Rattle.analysis.specs.declared.Finding.{Finding}
-use Rattle.order.proofs.Filled.{filled, length-filled, filled-more, all-filled}
+use Rattle.sheet.proofs.Filled.{filled, length-filled, filled-more, all-filled}
 
 -- the time of a frame of the task at a place, by the frame's length
 module _ (set : List Task) (p : ℕ) where

@@ -20,7 +20,7 @@ use Rattle.analysis.specs.Times.{number-at}
 use Rattle.analysis.specs.Findings.{no-finding, findings-from, findings-of}
 use Rattle.analysis.specs.Inside.Steps.{HasFrames, numbers-of, finding-to}
 use Rattle.analysis.specs.declared.Finding.{Finding}
-use Rattle.order.proofs.Filled.{filled, none-filled, filled-more, all-filled}
+use Rattle.sheet.proofs.Filled.{filled, none-filled, filled-more, all-filled}
 use Rattle.analysis.proofs.ByPlace.{finding-is-at, length-findings, finding-first}
 use Rattle.analysis.proofs.InUse.{tasks-within, number-is}
 

@@ -1,5 +1,4 @@
 -- What other crates cite stands in Order and Laws; the rest stands below these.
-pub mod Filled
 pub mod Higher
 pub mod Order
 pub mod Records

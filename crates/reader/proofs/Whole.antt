@@ -9,7 +9,7 @@ use lib.ListN.{length}
 use Rattle.bits.specs.Packed.{bits-of}
 use Rattle.check_word.specs.Division.{body, sealed}
 use Rattle.sheet.specs.Constants.{least-size, greatest-size}
-use Rattle.sheet.specs.Tasks.{task-in, records-of}
+use Rattle.sheet.specs.Tasks.{task-in, records-of, set-with}
 use Rattle.sheet.specs.Layout.{header-in, behind-header, tasks-in}
 use Rattle.sheet.specs.Admission.{decided, task-checks}
 use Rattle.sheet.specs.Reading.{sheet-checks, policy-of, tasks-of, reading-by, reading}
@@ -21,47 +21,32 @@ use Rattle.sheet.specs.declared.Reading.{Reading}
 use Rattle.sheet.specs.declared.Refusal.{Refusal}
 use Rattle.sheet.specs.declared.Refusal.the-variants.{Length, CheckWord}
 use Rattle.sheet.specs.declared.TaskSet.{TaskSet}
-use Rattle.reader.specs.Inside.Parts.{turned-away, reading-of, body-checks, set-in, body-reading, judged}
+use Rattle.admission.specs.Judged.{judged}
+use Rattle.admission.specs.Judged.{turned-away as refusing}
+use Rattle.admission.specs.declared.Judged.{Judged}
+use Rattle.reader.specs.Sheets.{sheet-judged}
+use Rattle.reader.specs.Inside.Parts.{turned-away, reading-of, body-checks, set-in, body-reading}
 
 answer-of : (a : Answer) (s : TaskSet) → reading-of a s .answer ≡ a
 unfolding reading-of turned-away
 answer-of Admitted s = refl
 answer-of (Refused why) s = refl
 
--- the tasks of a set, by the answer to them
-module _ (s : TaskSet) (a : Answer) (e : a ≡ decided (task-checks 0 (map task-in (records-of s)))) where
-  judged-is : judged s ≡ reading-of a s
-  unfolding judged
-  judged-is = ap (λ (x : Answer). reading-of x s) (sym e)
-
-  pub tasks-refused : (why : Refusal) → a ≡ Refused why → turned-away why ≡ judged s
-  unfolding reading-of
-  tasks-refused why f = sym (judged-is ∙ ap (λ (x : Answer). reading-of x s) f)
-
-  pub tasks-admitted : a ≡ Admitted → _≡_ {A = Reading} (record { answer = Admitted; set = s }) (judged s)
-  unfolding reading-of
-  tasks-admitted f = sym (judged-is ∙ ap (λ (x : Answer). reading-of x s) f)
-
 module _ (s : List ℕ) where
-  by-answer : (a : Answer) → reading-by a s ≡ reading-of a (set-in (bits-of (body s)))
-  unfolding reading-by reading-of set-in turned-away policy-of tasks-of
-  by-answer Admitted = refl
-  by-answer (Refused why) = refl
+  judged-is : (a : Answer) → decided (sheet-checks s) ≡ a → judged a (set-in (bits-of (body s))) ≡ sheet-judged s
+  unfolding sheet-judged set-in policy-of tasks-of
+  judged-is a e = ap (λ (x : Answer). judged x (set-in (bits-of (body s)))) (sym e)
 
-  reading-is : (a : Answer) → decided (sheet-checks s) ≡ a → reading-of a (set-in (bits-of (body s))) ≡ reading s
-  unfolding reading
-  reading-is a e = sym (ap (λ (x : Answer). reading-by x s) e ∙ by-answer a)
+  sheet-refused : (why : Refusal) → decided (sheet-checks s) ≡ Refused why → refusing why ≡ sheet-judged s
+  unfolding judged
+  sheet-refused why = judged-is (Refused why)
 
-  sheet-refused : (why : Refusal) → decided (sheet-checks s) ≡ Refused why → turned-away why ≡ reading s
-  unfolding reading-of
-  sheet-refused why = reading-is (Refused why)
-
-  pub too-short : length s < least-size → turned-away Length ≡ reading s
+  pub too-short : length s < least-size → refusing Length ≡ sheet-judged s
   unfolding sheet-checks
   too-short h = sheet-refused Length (applies _ Length _ (rw (lt-leb least-size (length s) h)))
 
   module _ (low : least-size ≤ length s) where
-    pub too-long : greatest-size < length s → turned-away Length ≡ reading s
+    pub too-long : greatest-size < length s → refusing Length ≡ sheet-judged s
     unfolding sheet-checks
     too-long h = sheet-refused Length (applies _ Length _ (rw (le-leb least-size (length s) low, lt-leb (length s) greatest-size h)))
 
@@ -69,7 +54,7 @@ module _ (s : List ℕ) where
       size-right : not (leb least-size (length s) && leb (length s) greatest-size) ≡ false
       size-right = rw (le-leb least-size (length s) low, le-leb (length s) greatest-size high)
 
-      pub seal-wrong : sealed s ≡ false → turned-away CheckWord ≡ reading s
+      pub seal-wrong : sealed s ≡ false → refusing CheckWord ≡ sheet-judged s
       unfolding sheet-checks
       seal-wrong e = sheet-refused CheckWord (passed-over _ Length _ size-right ∙ applies _ CheckWord _ (ap not e))
 
@@ -92,21 +77,28 @@ module _ (s : List ℕ) where
           unfolding on-body body-reading
           body-answer = sym (answer-of _ (set-in (bits-of (body s)))) ∙ sym (ap (λ (x : Reading). x .answer) er) ∙ ea
 
-          body-is : r ≡ reading-of a (set-in (bits-of (body s)))
-          unfolding on-body body-reading
-          body-is = er ∙ ap (λ (x : Answer). reading-of x (set-in (bits-of (body s)))) body-answer
+          by-body : decided (sheet-checks s) ≡ and-then a on-tasks
+          by-body = both ∙ ap (λ (x : Answer). and-then x on-tasks) body-answer
 
         -- a refusal before the tasks are looked at
-        pub body-decides : (why : Refusal) → r .answer ≡ Refused why → r ≡ reading s
-        body-decides why ea =
-            body-is (Refused why) ea ∙ reading-is (Refused why) (both ∙ ap (λ (x : Answer). and-then x on-tasks) (body-answer (Refused why) ea))
+        pub body-decides : (why : Refusal) → r .answer ≡ Refused why → refusing why ≡ sheet-judged s
+        body-decides why ea = sheet-refused why (by-body (Refused why) ea)
 
         -- the set whose tasks are looked at
-        pub tasks-decide : r .answer ≡ Admitted → (q : Reading) → q ≡ judged (r .set) → q ≡ reading s
-        unfolding on-tasks judged reading-of set-in
+        pub tasks-decide : r .answer ≡ Admitted → (q : Judged) → q ≡ judged (decided (task-checks 0 (map task-in (records-of (r .set))))) (r .set) → q ≡ sheet-judged s
+        unfolding on-tasks reading-of body-reading on-body set-in
         tasks-decide ea q eq =
-            let set = ap (λ (x : Reading). x .set) (body-is Admitted ea) in
+            let set = ap (λ (x : Reading). x .set) (er ∙ ap (λ (x : Answer). reading-of x (set-in (bits-of (body s)))) (body-answer Admitted ea)) in
             eq
-            ∙ ap (λ (x : TaskSet). reading-of (decided (task-checks 0 (map task-in (records-of x)))) x) set
-            ∙ ap (λ (ts : _). reading-of (decided (task-checks 0 ts)) (set-in (bits-of (body s)))) (tasks-with _ _)
-            ∙ reading-is on-tasks (both ∙ ap (λ (x : Answer). and-then x on-tasks) (body-answer Admitted ea))
+            ∙ ap (λ (x : TaskSet). judged (decided (task-checks 0 (map task-in (records-of x)))) x) set
+            ∙ ap (λ (ts : _). judged (decided (task-checks 0 ts)) (set-in (bits-of (body s)))) (tasks-with _ _)
+            ∙ judged-is on-tasks (by-body Admitted ea)
+
+-- what is read is what is judged, without the shapes
+pub reading-judged : (s : List ℕ) → _≡_ {A = Reading} (record { answer = sheet-judged s .answer; set = sheet-judged s .set }) (reading s)
+unfolding sheet-judged reading judged refusing reading-by
+reading-judged s = go (decided (sheet-checks s))
+  where
+    go : (a : Answer) → _≡_ {A = Reading} (record { answer = judged a (set-with (policy-of s) (tasks-of s)) .answer; set = judged a (set-with (policy-of s) (tasks-of s)) .set }) (reading-by a s)
+    go Admitted = refl
+    go (Refused why) = refl

@@ -1,2 +1,3 @@
--- Inside: what the parts of the reader answer; the whole answer is `reading` of crate sheet.
+-- What the reader answers: `reading` of crate sheet, and here a sheet that is judged. Inside: what its parts answer.
+pub mod Sheets
 pub mod Inside

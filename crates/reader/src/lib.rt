@@ -8,7 +8,9 @@ ghost use Rattle.sheet.specs.Constants.{most-tasks, most-frames, greatest-size}
 ghost use Rattle.sheet.specs.Fields.{header-widths};
 ghost use Rattle.sheet.specs.Admission.{decided};
 ghost use Rattle.sheet.specs.Reading.{layout-checks, reading};
-ghost use Rattle.reader.specs.Inside.Parts.{turned-away, frame-times-at, found-at, nothing-found, records-reading, body-reading, judged};
+ghost use Rattle.reader.specs.Sheets.{sheet-judged};
+ghost use Rattle.reader.specs.Inside.Parts.{turned-away, frame-times-at, found-at, nothing-found, records-reading, body-reading};
+use admission::Judged;
 use records::Rest;
 use records::Row;
 use sheet::Answer;
@@ -165,16 +167,27 @@ fn read_body(body: &[u8]) -> Reading
     read_records(body, start, policy, count)
 }
 
-// The tasks of a set that was read: 9, 10, 11 task by task.
-fn judge(set: TaskSet) -> Reading
-    ensures { λ r. ⌜ r ≡ judged set ⌝ }
+// What a byte string carries, judged: the set with the shapes of its tasks, or the one refusal.
+pub fn admit_sheet(bytes: &[u8]) -> Judged
+    ensures { λ r. ⌜ r ≡ sheet-judged (now (bytes .entry)) ⌝ }
 {
-    match admission::admit_tasks(set) {
-        Answer::Refused(why) => refused(why),
-        Answer::Admitted => Reading {
-            answer: Answer::Admitted,
-            set,
-        },
+    let n = bytes.len();
+    if n < Sheet::LEAST_SIZE {
+        return admission::refused(Refusal::Length);
+    }
+    if Sheet::GREATEST_SIZE < n {
+        return admission::refused(Refusal::Length);
+    }
+    let sealed = check_word::sealed(bytes);
+    if !sealed {
+        return admission::refused(Refusal::CheckWord);
+    }
+    let end = n - check_word::SIZE;
+    let found = read_body(&bytes[..end]);
+    let answer = found.answer;
+    match answer {
+        Answer::Refused(why) => admission::refused(why),
+        Answer::Admitted => admission::judge_tasks(found.set),
     }
 }
 
@@ -182,22 +195,8 @@ fn judge(set: TaskSet) -> Reading
 pub fn read_sheet(bytes: &[u8]) -> Reading
     ensures { λ r. ⌜ r ≡ reading (now (bytes .entry)) ⌝ }
 {
-    let n = bytes.len();
-    if n < Sheet::LEAST_SIZE {
-        return refused(Refusal::Length);
-    }
-    if Sheet::GREATEST_SIZE < n {
-        return refused(Refusal::Length);
-    }
-    let sealed = check_word::sealed(bytes);
-    if !sealed {
-        return refused(Refusal::CheckWord);
-    }
-    let end = n - check_word::SIZE;
-    let found = read_body(&bytes[..end]);
-    let answer = found.answer;
-    match answer {
-        Answer::Refused(_) => found,
-        Answer::Admitted => judge(found.set),
-    }
+    let judged = admit_sheet(bytes);
+    let answer = judged.answer;
+    let set = judged.set;
+    Reading { answer, set }
 }

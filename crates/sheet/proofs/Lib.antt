@@ -1,5 +1,6 @@
 -- The theorems are in RoundTrip, Changes, TurnedAway, Sizes, Determined and Analysable; the rest stands below these.
 pub mod Checks
+pub mod Filled
 pub mod Records
 pub mod Counts
 pub mod Rounds

@@ -109,7 +109,8 @@ fn put_sheet(bytes: &mut [u8], set: TaskSet)
 pub fn write_sheet(set: TaskSet, bytes: &mut [u8]) -> Written
     ensures { λ r. ⌜ (r ≡ written set (now (bytes .entry))) × (now (bytes .exit) ≡ left set (now (bytes .entry))) ⌝ }
 {
-    let answer = admission::admit(set);
+    let judged = admission::admit(set);
+    let answer = judged.answer;
     if let Answer::Refused(refusal) = answer {
         return Written::TurnedAway(refusal);
     }

@@ -81,7 +81,3 @@ set-in bits = let header = header-in bits in set-with (header .policy) (tasks-in
 -- what the bytes before the check word are read as
 unfoldable pub body-reading : List Bool → Reading
 body-reading bits = reading-of (decided (body-checks bits)) (set-in bits)
-
--- the checks of the tasks themselves, of a set that was read
-unfoldable pub judged : TaskSet → Reading
-judged s = reading-of (decided (task-checks 0 (map task-in (records-of s)))) s

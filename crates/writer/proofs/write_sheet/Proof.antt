@@ -8,6 +8,7 @@ use denote.Ref.{now}
 use Rattle.lent.specs.Lent.{laid}
 use Rattle.sheet.specs.Admission.{admission}
 use Rattle.sheet.specs.declared.Answer.the-variants.{Admitted}
+use Rattle.admission.proofs.Answers.{judged-tells}
 use Rattle.sheet.specs.declared.Written.the-variants.{Bytes}
 use Rattle.writer.proofs.Outcomes.{refused, no-room, done}
 use borrow.Author.Needs.{needs}
@@ -21,14 +22,14 @@ enum-known-answer : tie.Need-enum-known-answer
 enum-known-answer c = search needs
 
 returns : tie.Need-returns
-returns c = refused _ _ _ (sym (c .before .before .before .admit .ensures) ∙ c .before .answer .given .1)
+returns c = refused _ _ _ (judged-tells _ _ _ _ (c .before .before .before .admit .ensures) (c .before .answer .given .1))
 
 enum-told : tie.Need-enum-told
 enum-told c = search needs
 
 -- behind the refusal the set is admitted
 set-admitted : (c : tie.After-enum-told) → admission (c .before .before .before .before .args .set) ≡ Admitted
-set-admitted c = sym (c .before .before .admit .ensures) ∙ c .enum-told .given .1
+set-admitted c = judged-tells _ _ _ _ (c .before .before .admit .ensures) (c .enum-told .given .1)
 
 sheet-size-requires : tie.Need-sheet-size-requires
 sheet-size-requires c κs = set-admitted c

@@ -9,7 +9,7 @@ use Rattle.sheet.specs.Constants.{most-frames}
 use Rattle.sheet.specs.Tasks.{task-in}
 use Rattle.response.specs.Response.{response-to}
 use Rattle.analysis.specs.Inside.Steps.{as-written}
-use Rattle.order.proofs.Filled.{filled, none-filled}
+use Rattle.sheet.proofs.Filled.{filled, none-filled}
 use Rattle.analysis.proofs.ByPlace.{times-in, one-deadline, up-to-more, up-to-all, slots-to}
 use borrow.Author.Needs.{needs}
 use Rattle.analysis.proofs.findings.times_to.Statement.{statement}
