@@ -26,12 +26,6 @@ fn lies_within(len: usize, at: usize, width: usize) -> bool
     (at % 8 + width + 7) / 8 <= len - at / 8
 }
 
-fn wide(b: u8) -> u64
-    ensures { λ r. ⌜ r ≡ b ⌝ }
-{
-    b as u64
-}
-
 // The number that a few bytes stand for, high byte first.
 fn number(bytes: &[u8]) -> u64
     requires { ⌜ length (now bytes) ≤ 5 ⌝ }
@@ -39,7 +33,7 @@ fn number(bytes: &[u8]) -> u64
 {
     let mut n: u64 = 0;
     for i in 0..bytes.len() {
-        n = (n << 8) | wide(bytes[i]);
+        n = (n << 8) | bytes[i] as u64;
     }
     n
 }

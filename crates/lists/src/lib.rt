@@ -1,7 +1,7 @@
 // The workbench's lists of task records: a lent list gathered into a set by value, a set scattered into a lent list,
 // and over these two the calls that read into, write and analyse a lent list, for Rattle and for C.
 ghost use mathlib.Core.Path.{_≡_};
-ghost use Prim.Native.Nat.{suc, _<_, _^_, min};
+ghost use Prim.Native.Nat.{_<_, _^_};
 ghost use lib.ListN.{getD};
 ghost use Rattle.sheet.specs.Constants.{most-tasks};
 ghost use Rattle.sheet.specs.Tasks.{no-record};
@@ -18,37 +18,15 @@ use sheet::Task;
 use sheet::TaskSet;
 use sheet::Written;
 
-// The count of a list of n records: 17 for all that are too long.
-fn counted(n: usize) -> u32
-    ensures { λ r. ⌜ r ≡ min n (suc most-tasks) ⌝ }
-{
-    let over = Sheet::MOST_TASKS + 1;
-    if n < over as usize {
-        return n as u32;
-    }
-    over
-}
-
-// A set for a list of n records, with none of them in it yet.
+// A set for a list of n records, with none of them in it yet; the count is 17 for all lists that are too long.
 fn opened(policy: u32, n: usize) -> TaskSet
     ensures { λ r. ⌜ r ≡ opened-of policy n ⌝ }
 {
     TaskSet {
         policy: policy,
-        task_count: counted(n),
+        task_count: sheet::in_use(n, Sheet::TASK_ROOM + 1) as u32,
         tasks: [Task::blank(); Sheet::TASK_ROOM],
     }
-}
-
-// How many of n records go into a set.
-fn to_copy(n: usize) -> usize
-    ensures { λ r. ⌜ r ≡ min n most-tasks ⌝ }
-{
-    let most = Sheet::MOST_TASKS as usize;
-    if n < most {
-        return n;
-    }
-    most
 }
 
 fn with_record(set: TaskSet, i: usize, task: Task) -> TaskSet
@@ -65,7 +43,7 @@ pub fn gathered(policy: u32, list: &[Task]) -> TaskSet
     ensures { λ r. ⌜ r ≡ gathered-of policy (now (list .entry)) ⌝ }
 {
     let n = list.len();
-    let count = to_copy(n);
+    let count = sheet::in_use(n, Sheet::TASK_ROOM);
     let mut set = opened(policy, n);
     let mut i: usize = 0;
     while i < count {

@@ -75,18 +75,12 @@ fn each_fits(widths: &[usize], numbers: &[u32]) -> bool
     }
     let mut i: usize = 0;
     while i < widths.len() {
-        if wide(numbers[i]) >> widths[i] != 0 {
+        if numbers[i] as u64 >> widths[i] != 0 {
             return false;
         }
         i += 1;
     }
     true
-}
-
-fn wide(n: u32) -> u64
-    ensures { λ r. ⌜ r ≡ n ⌝ }
-{
-    n as u64
 }
 
 // The numbers go into fields that are there and fit them, one behind the other; the answer is the position behind the last.

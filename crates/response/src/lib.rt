@@ -1,7 +1,6 @@
 // The completion-time equation: the least time at which blocking, a frame and the work of the tasks above are done.
 ghost use mathlib.Core.Path.{_≡_};
 ghost use Prim.Native.Nat.{min, max};
-ghost use lib.ListN.{length};
 ghost use Rattle.sheet.specs.Constants.{most-tasks};
 ghost use Rattle.response.specs.Response.{higher-in, response-to};
 ghost use Rattle.response.specs.Inside.Counting.{nothing-counted, Begun, Advancing, Advanced};
@@ -41,16 +40,6 @@ struct Step {
 // Past every time that a deadline can be: a task with no work has no job to count.
 const IDLE: u64 = 4_294_967_296;
 
-// How many of the tasks above there are.
-fn above_in(count: u32, tasks: [Higher; Sheet::TASK_ROOM]) -> usize
-    ensures { λ r. ⌜ (r ≡ min count most-tasks) × (length tasks ≡ most-tasks) ⌝ }
-{
-    if count < Sheet::MOST_TASKS {
-        return count as usize;
-    }
-    Sheet::MOST_TASKS as usize
-}
-
 // Times are counted from 1.
 fn at_least_one(t: u64) -> u64
     ensures { λ r. ⌜ r ≡ max 1 t ⌝ }
@@ -70,8 +59,7 @@ fn begin(h: Higher) -> Counted
         next: 0,
     };
     let task = h.task;
-    let frames = task.frames;
-    let count = sheet::frames_in(task.frame_count, frames);
+    let count = sheet::in_use(task.frame_count as usize, Sheet::FRAME_ROOM);
     if task.period == 0 {
         return idle;
     }
@@ -88,7 +76,7 @@ fn begin_all(above: Above) -> [Counted; Sheet::TASK_ROOM]
     ensures { λ r. ⌜ Begun (above .tasks) (min (above .count) most-tasks) r ⌝ }
 {
     let tasks = above.tasks;
-    let count = above_in(above.count, tasks);
+    let count = sheet::in_use(above.count as usize, Sheet::TASK_ROOM);
     let idle = Counted {
         until: IDLE,
         next: 0,
@@ -109,13 +97,13 @@ fn advance(h: Higher, from: Counted, total: u64, x: u64, deadline: u64) -> Step
 {
     let task = h.task;
     let frames = task.frames;
-    let period = sheet::wide(task.period);
-    let count = sheet::frames_in(task.frame_count, frames);
+    let period = task.period as u64;
+    let count = sheet::in_use(task.frame_count as usize, Sheet::FRAME_ROOM);
     let mut until = from.until;
     let mut next = from.next;
     let mut sum = total;
     while until < x {
-        sum += sheet::wide(frames[next]);
+        sum += frames[next] as u64;
         if deadline < sum {
             break;
         }
@@ -133,10 +121,10 @@ fn advance(h: Higher, from: Counted, total: u64, x: u64, deadline: u64) -> Step
 pub fn respond(above: Above, blocked: u32, own: u32, deadline: u32) -> Response
     ensures { λ r. ⌜ r ≡ response-to above blocked own deadline ⌝ }
 {
-    let limit = sheet::wide(deadline);
-    let count = above_in(above.count, above.tasks);
+    let limit = deadline as u64;
+    let count = sheet::in_use(above.count as usize, Sheet::TASK_ROOM);
     let mut counted = begin_all(above);
-    let mut total = sheet::wide(blocked) + sheet::wide(own);
+    let mut total = blocked as u64 + own as u64;
     let mut x = at_least_one(total);
     while x <= limit {
         let mut i = 0;

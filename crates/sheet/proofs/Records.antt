@@ -33,6 +33,10 @@ tasks-with policy ts = ap (map task-in) (records-with policy ts) ∙ tasks-in-re
 
 -- ---- slots in use
 
+-- an array of structs is as long as the list of their values
+pub mapped-length : (X Y : Type 0) (f : X → Y) (l : List X) (n : ℕ) → length (map f l) ≡ n → length l ≡ n
+mapped-length X Y f l n e = sym (length-map l f) ∙ e
+
 -- a count takes no more slots than there are
 pub taken-slots {ℓ} : {A : Type ℓ} (xs : List A) (n slots : ℕ) → length xs ≡ slots → take (min n slots) xs ≡ take n xs
 taken-slots xs n slots e = go (decLe n slots)

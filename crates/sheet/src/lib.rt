@@ -193,6 +193,16 @@ impl Task {
     }
 }
 
+// How many of `most` slots are in use.
+pub fn in_use(count: usize, most: usize) -> usize
+    ensures { λ r. ⌜ r ≡ min count most ⌝ }
+{
+    if count < most {
+        return count;
+    }
+    most
+}
+
 // How many of a record's frames are in use: no more than there are slots.
 pub fn frames_in(count: u32, frames: [u32; Sheet::FRAME_ROOM]) -> usize
     ensures { λ r. ⌜ (r ≡ min count most-frames) × (length frames ≡ most-frames) ⌝ }

@@ -10,9 +10,6 @@ use lib.ListN.{length, take}
 use Rattle.bits.specs.Packed.{value, bits-of}
 use Rattle.bits.proofs.number.Statement.{statement}
 use Rattle.bits.proofs.number.Tie as tie
-use Rattle.bits.proofs.number.Reads as reads
-use Rattle.bits.proofs.number.Lts as lts
-use Rattle.bits.proofs.wide.Reads as wide-reads
 
 abbrev Inv-loop : tie.InvT-loop
 Inv-loop bytes n₀ i₀ i-end n i = (i ≤ length bytes) × (i-end ≡ length bytes) × (n ≡ value (bits-of (take i bytes)))
@@ -24,11 +21,11 @@ loop-holds : tie.Need-loop-holds Inv-loop μ-loop
 unfolding value bits-of
 loop-holds c = (search needs, refl, refl)
 
-shared-slice-read-wide : tie.Need-shared-slice-read-wide Inv-loop μ-loop
-shared-slice-read-wide c = search needs
+shared-slice-read-n : tie.Need-shared-slice-read-n Inv-loop μ-loop
+shared-slice-read-n c = search needs
 
-wide-requires : tie.Need-wide-requires Inv-loop μ-loop
-wide-requires c κs = search needs
+cast-n : tie.Need-cast-n Inv-loop μ-loop
+cast-n c = record { fits = omega (arith, c .shared-slice-known .given (c .before .before .loop .i) .fits) }
 
 add-i : tie.Need-add-i Inv-loop μ-loop
 add-i c = search needs
@@ -38,12 +35,12 @@ loop-less c = search needs
 
 loop-again : tie.Need-loop-again Inv-loop μ-loop
 loop-again c =
-    let s = now (c .before .before .before .before .before .args .bytes) in
-    let i = c .before .before .before .loop .i in
-    (search needs, refl, number-more s i _ _ (omega arith) (omega arith) (λ i. c .before .before .before .before .shared-slice-known .given i .fits) (c .before .before .before .loop .inv .2) (c .wide .ensures))
+    let s = now (c .before .before .before .args .bytes) in
+    let i = c .before .before .loop .i in
+    (search needs, refl, number-more s i _ _ (omega arith) (omega arith) (λ i. c .shared-slice-known .given i .fits) (c .before .before .loop .inv .2) refl)
 
 returns : tie.Need-returns Inv-loop μ-loop
-returns c = rw (← take-all (c .before .loop .i) (now (c .before .before .before .args .bytes)) (omega arith)) (c .before .loop .inv .2)
+returns c = rw (← take-all (c .before .loop .i) (now (c .before .before .args .bytes)) (omega arith)) (c .before .loop .inv .2)
 
 pub number-spec : {M : Type 1} → statement M
 number-spec =
@@ -52,8 +49,8 @@ number-spec =
     Inv-loop
     μ-loop
     loop-holds
-    shared-slice-read-wide
-    wide-requires
+    shared-slice-read-n
+    cast-n
     add-i
     loop-less
     loop-again

@@ -1,5 +1,5 @@
 -- `gathered` meets its contract: a walk of its MIR, by hand. Each turn reads one record through the lent list and calls `with_record` on values.
--- All that it knows of `to_copy`, `opened` and `with_record` is that each meets its contract.
+-- All that it knows of `in_use`, `opened` and `with_record` is that each meets its contract.
 use mathlib.Core.Path.{_≡_, refl, sym, _∙_, subst}
 use Prim.Native.Nat.{ℕ, _+_, _-_, _*_, _≤_, _<_, _^_, min, zero-le}
 use native.Mathlib.Nat.{le-antisymm, min-le-left, min-le-right}
@@ -54,10 +54,10 @@ use Rattle.lists.specs.Inside.Parts.{opened-of, with-record as with-reco
 use Rattle.lists.proofs.Laws.{part, part-none, part-more, part-all}
 use Rattle.lists.proofs.Records.{task-val, set-val, IsSet, task-tells, set-tells, task-makes, set-makes, task-typed, set-typed, task-copy}
 use Rattle.lists.proofs.Walk.{tests, calls-value}
-use Rattle.lists.proofs.to_copy as to-copy
-use Rattle.lists.proofs.to_copy.Symbol as to-copy-def
-use Rattle.lists.proofs.to_copy.Symbol.{name as #to-copy}
-use Rattle.lists.proofs.to_copy.Met as to-copy-thm
+use Rattle.sheet.proofs.in_use as in-use
+use Rattle.sheet.proofs.in_use.Symbol as in-use-def
+use Rattle.sheet.proofs.in_use.Symbol.{name as #in-use}
+use Rattle.sheet.proofs.in_use.Met as in-use-thm
 use Rattle.lists.proofs.opened as opened
 use Rattle.lists.proofs.opened.Symbol as opened-def
 use Rattle.lists.proofs.opened.Symbol.{name as #opened}
@@ -90,8 +90,8 @@ abbrev τList : Ty
 
 module _ {M : Type 1} (𝓤 : URA M) (H : Heap 𝓤) (A : Atoms 𝓤) (mem : Memory → SProp 𝓤) (run : Routine → Fun 𝓤) where
   -- the contracts that the proof cites
-  abbrev ToCopy : Contract 𝓤
-  ToCopy = tripleOf 𝓤 H A to-copy.signature (to-copy.spec 𝓤 H A mem run)
+  abbrev InUse : Contract 𝓤
+  InUse = tripleOf 𝓤 H A in-use.signature (in-use.spec 𝓤 H A mem run)
 
   abbrev Opened : Contract 𝓤
   Opened = tripleOf 𝓤 H A opened.signature (opened.spec 𝓤 H A mem run)
@@ -215,15 +215,15 @@ module _ {M : Type 1} (𝓤 : URA M) (H : Heap 𝓤) (A : Atoms 𝓤) (W : Given
         next-fits : T (ltb (i .0) m) → i .0 + 1 < 2 ^ 64
         next-fits less = omega (arith, in-set less)
 
-  walk : (𝓣 : Tables 𝓤 H) → Triple 𝓤 (𝓣 .C #to-copy) (ToCopy 𝓤 H A mem run) → Triple 𝓤 (𝓣 .C #opened) (Opened 𝓤 H A mem run) → Triple 𝓤 (𝓣 .C #with-record) (WithRecord 𝓤 H A mem run)
+  walk : (𝓣 : Tables 𝓤 H) → Triple 𝓤 (𝓣 .C #in-use) (InUse 𝓤 H A mem run) → Triple 𝓤 (𝓣 .C #opened) (Opened 𝓤 H A mem run) → Triple 𝓤 (𝓣 .C #with-record) (WithRecord 𝓤 H A mem run)
       → ent 𝓤 (onEntry 𝓤 H A gathered.signature (κ, tt) (q, tt) (policy, (x, tt)) vals) (WpFn 𝓤 H (𝓣 .C) (𝓣 .Λ) code.function (vint w32 policy ∷ s ∷ []) Post)
-  walk 𝓣 known-copy known-opened known-record =
+  walk 𝓣 known-in-use known-opened known-record =
       qed W ((‵ (flft κ q) ⊛ ‵ ftrue) ∷ ‵ (owns (u32 ∷ ShrSlice (named 0) κ T.the-row ∷ []) (policy, (x, tt)) vals) ∷ []) ∵ enter ! (𝓣 .C) (𝓣 .Λ) code.function (vint w32 policy ∷ s ∷ []) _ $
       alloc1 ! (λ l₀. alloc1 ! (λ l₁. alloc1 ! (λ l₂. alloc1 ! (λ l₃. alloc1 ! (λ l₄. alloc1 ! (λ l₅. alloc1 ! (λ l₆. alloc1 ! (λ l₇. alloc1 ! (λ l₈. alloc1 ! (λ l₉. alloc1 ! (λ l₁₀. alloc0 ! $ params1 ! $
       pass1 ! (init ! 18 refl (tt, record { fits = policy-fits })) $ pass1 ! (init ! 16 refl (tt, (tt, (record { fits = room .0 }, tt)))) $ pass0 ! $
       assigns ! (of-opd ! (load ! (from ! (fld ! refl (stop !))) (look-in ! 16 (sub ! 1 refl (whole !))))) (from ! (stop !)) (init ! 14 refl (tt, record { fits = room .0 })) $
-      calls-value ! (fmOf 𝓤 H (W .laws) 𝓣) to-copy.ended (to-copy.clauses 𝓤 H A mem run) known-copy (tt, tt, tt, (length ys, tt), (vint w64 (length ys) ∷ [], tt)) tt (id⊢ 𝓤 _) (id⊢ 𝓤 _)
-      (uint-makes 𝓤 H A W w64, tt) ((refl, room .0), tt) (λ r. r ≡ m) (λ r ws. id⊢ 𝓤 _) m (λ r e. e) (vint w64) (uint-tells w64) (and-then ! (load ! (from ! (stop !)) (look ! 15 refl)) (no-more !)) (λ is.
+      calls-value ! (fmOf 𝓤 H (W .laws) 𝓣) in-use.ended (in-use.clauses 𝓤 H A mem run) known-in-use (tt, tt, tt, (length ys, (16, tt)), (vint w64 (length ys) ∷ [], (vint w64 16 ∷ [], tt))) tt (id⊢ 𝓤 _) (id⊢ 𝓤 _)
+      (uint-makes 𝓤 H A W w64, (uint-makes 𝓤 H A W w64, tt)) ((refl, room .0), ((refl, lit< tt), tt)) (λ r. r ≡ m) (λ r ws. id⊢ 𝓤 _) m (λ r e. e) (vint w64) (uint-tells w64) (and-then ! (load ! (from ! (stop !)) (look ! 15 refl)) (and-then ! (lit ! tt) (no-more !))) (λ is.
       land ! (from ! (stop !)) (init ! 12 refl (tt, record { fits = is .1 })) $
       calls-value ! (fmOf 𝓤 H (W .laws) 𝓣) opened.ended (opened.clauses 𝓤 H A mem run) known-opened (tt, tt, tt, (policy, (length ys, tt)), (vint w32 policy ∷ [], (vint w64 (length ys) ∷ [], tt))) tt (id⊢ 𝓤 _) (id⊢ 𝓤 _)
       (uint-makes 𝓤 H A W w32, (uint-makes 𝓤 H A W w64, tt)) ((refl, policy-fits), ((refl, room .0), tt)) (λ r. r ≡ opened-of policy (length ys)) (λ r ws. id⊢ 𝓤 _) (part policy ys 0) (λ r e. e ∙ part-none policy ys)
@@ -238,11 +238,11 @@ module _ {M : Type 1} (𝓤 : URA M) (H : Heap 𝓤) (A : Atoms 𝓤) (W : Given
       first ! $ blocks ! $ loops ! 𝓣 Nearer Nearer-wf (At 𝓣 l₀ l₁ l₂ l₃ l₄ l₅ l₆ l₇ l₈ l₉ l₁₀) (turns 𝓣 l₀ l₁ l₂ l₃ l₄ l₅ l₆ l₇ l₈ l₉ l₁₀ known-record) (0, zero-le, is′))))))))))))))
 
 module _ {M : Type 1} (𝓤 : URA M) (H : Heap 𝓤) (A : Atoms 𝓤) (W : Given 𝓤 H A) (mem : Memory → SProp 𝓤) (run : Routine → Fun 𝓤) (𝓣 : Tables 𝓤 H)
-    (known-copy : Triple 𝓤 (𝓣 .C #to-copy) (ToCopy 𝓤 H A mem run)) (known-opened : Triple 𝓤 (𝓣 .C #opened) (Opened 𝓤 H A mem run)) (known-record : Triple 𝓤 (𝓣 .C #with-record) (WithRecord 𝓤 H A mem run)) where
+    (known-in-use : Triple 𝓤 (𝓣 .C #in-use) (InUse 𝓤 H A mem run)) (known-opened : Triple 𝓤 (𝓣 .C #opened) (Opened 𝓤 H A mem run)) (known-record : Triple 𝓤 (𝓣 .C #with-record) (WithRecord 𝓤 H A mem run)) where
   gathered-walks : Walks 𝓤 H A gathered.ended stayed (WpFn 𝓤 H (𝓣 .C) (𝓣 .Λ) code.function) (gathered.clauses 𝓤 H A mem run)
   gathered-walks = walked 𝓤 H A gathered.ended stayed (gathered.clauses 𝓤 H A mem run) (WpFn 𝓤 H (𝓣 .C) (𝓣 .Λ) code.function) (λ κs. (uint-vals w32, (slice-vals, tt))) (λ κs. (uint-tells w32, (shr-slice-tells (named 0) (κs .0) T.the-row, tt)))
       (λ κs qs bounds a g are. via 𝓤 _ (fst∗ 𝓤 _ (emp 𝓤))
-      (walk 𝓤 H A W mem run (κs .0) (qs .0) (a .0) (a .1 .0 .ptr .0) (a .1 .0 .ptr .1) (a .1 .0 .name) (a .1 .0 .now) (are .0 .1) (are .1 .0 .0 .1) 𝓣 known-copy known-opened known-record))
+      (walk 𝓤 H A W mem run (κs .0) (qs .0) (a .0) (a .1 .0 .ptr .0) (a .1 .0 .ptr .1) (a .1 .0 .name) (a .1 .0 .now) (are .0 .1) (are .1 .0 .0 .1) 𝓣 known-in-use known-opened known-record))
 
   gathered-meets : Meets 𝓤 H A gathered.signature (WpFn 𝓤 H (𝓣 .C) (𝓣 .Λ) code.function) (gathered.spec 𝓤 H A mem run)
   gathered-meets = walk-meets 𝓤 H A gathered.ended stayed W (goes-dropped 𝓤 H A W 1 (plain (λ _. u32)) yes (λ κs x f. refl), (goes-dropped 𝓤 H A W 1 (shrSliceOf (0 ∷ []) tt (plain (λ _. T.the-row))) yes (λ κs x f. refl), tt)) (gathered.clauses 𝓤 H A mem run)
@@ -254,6 +254,6 @@ gathered-spec 𝓤 H 𝓜 𝓖 𝓡 =
     entered 𝓤 H (tripleOf 𝓤 H (𝓖 .A) gathered.signature (gathered.spec 𝓤 H (𝓖 .A) (𝓜 .mem) (𝓡 .run)))
     (tables 𝓤 H 𝓜 𝓡 code.env .C) (tables 𝓤 H 𝓜 𝓡 code.env .Λ) #gathered code.function (code.unfolded 𝓤 H 𝓜 𝓡)
     (gathered-meets 𝓤 H (𝓖 .A) (givenOf 𝓤 H 𝓜 𝓖) (𝓜 .mem) (𝓡 .run) (tablesOf 𝓤 H 𝓜 (tables 𝓤 H 𝓜 𝓡 code.env))
-    (cited 𝓤 H (ToCopy 𝓤 H (𝓖 .A) (𝓜 .mem) (𝓡 .run)) 𝓜 𝓡 code.env #to-copy to-copy-def.routine code.calls-lists·to-copy (to-copy-thm.met 𝓤 H 𝓜 𝓖 𝓡))
+    (cited 𝓤 H (InUse 𝓤 H (𝓖 .A) (𝓜 .mem) (𝓡 .run)) 𝓜 𝓡 code.env #in-use in-use-def.routine code.calls-sheet·in-use (in-use-thm.met 𝓤 H 𝓜 𝓖 𝓡))
     (cited 𝓤 H (Opened 𝓤 H (𝓖 .A) (𝓜 .mem) (𝓡 .run)) 𝓜 𝓡 code.env #opened opened-def.routine code.calls-lists·opened (opened-thm.met 𝓤 H 𝓜 𝓖 𝓡))
     (cited 𝓤 H (WithRecord 𝓤 H (𝓖 .A) (𝓜 .mem) (𝓡 .run)) 𝓜 𝓡 code.env #with-record with-record-def.routine code.calls-lists·with-record (with-record-thm.met 𝓤 H 𝓜 𝓖 𝓡)))

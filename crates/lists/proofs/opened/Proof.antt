@@ -3,20 +3,22 @@ use Rattle.lists.specs.Inside.Parts.{opened-of}
 use borrow.Author.Needs.{needs}
 use Rattle.lists.proofs.opened.Statement.{statement}
 use Rattle.lists.proofs.opened.Tie as tie
-use Rattle.lists.proofs.opened.Reads as reads
-use Rattle.lists.proofs.opened.Lts as lts
-use Rattle.lists.proofs.counted.Reads as counted-reads
-use Rattle.sheet.proofs.Task.blank.Reads as blank-reads
 
-counted-requires : tie.Need-counted-requires
-counted-requires c κs = search needs
+add-in-use : tie.Need-add-in-use
+add-in-use c = search needs
+
+in-use-requires : tie.Need-in-use-requires
+in-use-requires c κs = search needs
+
+cast-t5 : tie.Need-cast-t5
+cast-t5 c = search needs
 
 blank-requires : tie.Need-blank-requires
 blank-requires c κs = search needs
 
 returns : tie.Need-returns
 unfolding opened-of
-returns c = rw (c .blank .ensures, c .before .counted .ensures)
+returns c = rw (c .blank .ensures, c .before .in-use .ensures)
 
 pub opened-spec : {M : Type 1} → statement M
-opened-spec = tie.close (tie.spec counted-requires blank-requires returns)
+opened-spec = tie.close (tie.spec add-in-use in-use-requires cast-t5 blank-requires returns)

@@ -23,32 +23,32 @@ returns c = sym (uneven _ _ (c .if1 .taken))
 loop-holds : tie.Need-loop-holds Inv-loop μ-loop
 loop-holds c = (omega arith, refl)
 
-mul-wide : tie.Need-mul-wide Inv-loop μ-loop
-mul-wide c = search needs
-
-shared-slice-read-wide : tie.Need-shared-slice-read-wide Inv-loop μ-loop
-shared-slice-read-wide c = search needs
-
-wide-requires : tie.Need-wide-requires Inv-loop μ-loop
-wide-requires c κs = search needs
-
 mul-if2 : tie.Need-mul-if2 Inv-loop μ-loop
 mul-if2 c = search needs
 
 shared-slice-read-if2 : tie.Need-shared-slice-read-if2 Inv-loop μ-loop
 shared-slice-read-if2 c = search needs
 
+cast-if2 : tie.Need-cast-if2 Inv-loop μ-loop
+cast-if2 c = record { fits = omega (arith, c .shared-slice-known .given (c .before .before .loop .i) .fits) }
+
+mul-if2-2 : tie.Need-mul-if2-2 Inv-loop μ-loop
+mul-if2-2 c = search needs
+
+shared-slice-read-if2-2 : tie.Need-shared-slice-read-if2-2 Inv-loop μ-loop
+shared-slice-read-if2-2 c = search needs
+
 shr-if2 : tie.Need-shr-if2 Inv-loop μ-loop
 shr-if2 c =
-    let t = c .before .before .before in
-    let a = t .before .before .before .before .before in
+    let t = c .before .before in
+    let a = t .before .before .before in
     omega (arith, lawful-at (now (a .args .widths)) (a .pre) (t .before .loop .i) (t .loop-test .taken) .1)
 
 returns-2 : tie.Need-returns-2 Inv-loop μ-loop
 returns-2 c =
-    let t = c .before .before .before .before in
+    let t = c .before .before .before in
     let l = t .before in
-    sym (l .loop .inv .1 ∙ fits-not _ _ _ (t .loop-test .taken) (omega arith) (not-shifted-out _ _ (rw (c .before .before .wide .ensures) at (c .if2 .taken))))
+    sym (l .loop .inv .1 ∙ fits-not _ _ _ (t .loop-test .taken) (omega arith) (not-shifted-out _ _ (c .if2 .taken)))
 
 add-i : tie.Need-add-i Inv-loop μ-loop
 add-i c = search needs
@@ -58,9 +58,9 @@ loop-less c = search needs
 
 loop-again : tie.Need-loop-again Inv-loop μ-loop
 loop-again c =
-    let t = c .before .before .before .before in
+    let t = c .before .before .before in
     let l = t .before in
-    (omega arith, l .loop .inv .1 ∙ fits-more _ _ _ (t .loop-test .taken) (omega arith) (shifted-out _ _ (rw (c .before .before .wide .ensures) at (c .if2 .left))))
+    (omega arith, l .loop .inv .1 ∙ fits-more _ _ _ (t .loop-test .taken) (omega arith) (shifted-out _ _ (c .if2 .left)))
 
 returns-3 : tie.Need-returns-3 Inv-loop μ-loop
 returns-3 c = sym (c .before .loop .inv .1 ∙ fits-all _ _ _ (c .loop-test .left) (omega arith))
@@ -73,11 +73,11 @@ each-fits-spec =
     μ-loop
     returns
     loop-holds
-    mul-wide
-    shared-slice-read-wide
-    wide-requires
     mul-if2
     shared-slice-read-if2
+    cast-if2
+    mul-if2-2
+    shared-slice-read-if2-2
     shr-if2
     returns-2
     add-i

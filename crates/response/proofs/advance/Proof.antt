@@ -1,8 +1,12 @@
 -- `advance` meets its contract: the jobs counted are as many more as periods have passed.
-use Prim.Native.Nat.{suc, _+_, _-_, _≤_, _<_}
+use mathlib.Core.Path.{refl}
+use Prim.Native.Nat.{ℕ, suc, _+_, _-_, _≤_, _<_}
 use native.Mathlib.Nat.{mod-lt}
 use native.Mathlib.Omega.{arith}
 use borrow.Author.Needs.{needs}
+use lib.ListN.{getD}
+use mir.Syntax.{w32}
+use mir.Val.{Fits}
 use Rattle.sheet.specs.Tasks.{task-in}
 use Rattle.sheet.proofs.Rounds.{round-is}
 use Rattle.response.specs.Response.{higher-in}
@@ -17,32 +21,38 @@ Inv-loop total x deadline frames period count until₀ next₀ sum₀ until next
 abbrev μ-loop : tie.MeasureT-loop
 μ-loop total x deadline frames period count until₀ next₀ sum₀ until next sum = suc x - until
 
-wide-requires : tie.Need-wide-requires Inv-loop μ-loop
-wide-requires c κs = search needs
+cast-period : tie.Need-cast-period Inv-loop μ-loop
+cast-period c = search needs
 
-frames-in-requires : tie.Need-frames-in-requires Inv-loop μ-loop
-frames-in-requires c κs = search needs
+cast-in-use : tie.Need-cast-in-use Inv-loop μ-loop
+cast-in-use c = search needs
 
-framed : (c : tie.After-frames-in Inv-loop μ-loop)
-    → Framed (higher-in (c .before .before .before .before .args .h) .task) (c .before .before .before .before .args .h .task .frames) (c .frames-in .result)
-framed c = framed-in _ (c .frames-in .ensures .1) (c .frames-in .ensures .0)
+in-use-requires : tie.Need-in-use-requires Inv-loop μ-loop
+in-use-requires c κs = search needs
+
+framed : (c : tie.After-in-use Inv-loop μ-loop)
+    → Framed (higher-in (c .before .before .before .before .before .args .h) .task) (c .before .before .before .before .before .args .h .task .frames) (c .in-use .result)
+framed c = framed-in _ (search needs) (c .in-use .ensures)
+
+small : (c : tie.Start Inv-loop μ-loop) (k : ℕ) → Fits w32 (getD (c .args .h .task .frames) k 0)
+small c k = search needs
 
 loop-holds : tie.Need-loop-holds Inv-loop μ-loop
 loop-holds c =
-    let k : c .before .before .before .before .args .from .next < c .frames-in .result = next-in (c .before .before .before .before .pre) (framed c) in
+    let k : c .before .before .before .before .before .args .from .next < c .in-use .result = next-in (c .before .before .before .before .before .pre) (framed c) in
     (more-none k, k, omega arith, omega arith)
 
-mul-wide : tie.Need-mul-wide Inv-loop μ-loop
-mul-wide c = omega arith
+mul-sum : tie.Need-mul-sum Inv-loop μ-loop
+mul-sum c = omega arith
 
-array-read-wide : tie.Need-array-read-wide Inv-loop μ-loop
-array-read-wide c = omega arith
+array-read-sum : tie.Need-array-read-sum Inv-loop μ-loop
+array-read-sum c = omega arith
 
-wide-requires-2 : tie.Need-wide-requires-2 Inv-loop μ-loop
-wide-requires-2 c κs = search needs
+cast-sum : tie.Need-cast-sum Inv-loop μ-loop
+cast-sum c = search needs
 
 add-sum : tie.Need-add-sum Inv-loop μ-loop
-add-sum c = omega arith
+add-sum c = omega (arith, small (c .before .before .before .before .before .before .before) (c .before .loop .next) .fits)
 
 next-frame-requires : tie.Need-next-frame-requires Inv-loop μ-loop
 next-frame-requires c κs = search needs
@@ -56,8 +66,8 @@ loop-less c = omega arith
 
 loop-again : tie.Need-loop-again Inv-loop μ-loop
 loop-again c = (
-  more-job (c .before .before .before .before .loop .inv .0) (c .before .before .before .before .loop .inv .1) (c .next-frame .ensures) (c .before .before .wide2 .ensures .0),
-  rw (c .next-frame .ensures, round-is _ _ (c .before .before .before .before .loop .inv .1)) (mod-lt _ (omega arith)),
+  more-job (c .before .before .before .loop .inv .0) (c .before .before .before .loop .inv .1) (c .next-frame .ensures) refl,
+  rw (c .next-frame .ensures, round-is _ _ (c .before .before .before .loop .inv .1)) (mod-lt _ (omega arith)),
   omega arith,
   omega arith,
 )
@@ -66,9 +76,9 @@ returns : tie.Need-returns Inv-loop μ-loop
 unfolding higher-in task-in
 returns c =
     all-jobs
-    (c .before .before .before .before .before .before .pre)
+    (c .before .before .before .before .before .before .before .pre)
     (framed (c .before .before))
-    (rw (c .before .before .before .wide .ensures .0) at (c .before .loop .inv .0))
+    (c .before .loop .inv .0)
     (omega arith)
     (omega arith)
 
@@ -77,9 +87,9 @@ unfolding higher-in task-in
 returns-2 c =
     over-deadline
     (c .before .before .before .before .before .before .before .before .pre)
-    (framed (c .before .before .before .before))
-    (rw (c .before .before .before .before .before .wide .ensures .0) at (c .before .before .before .loop .inv .0))
-    (c .before .wide2 .ensures .0)
+    (framed (c .before .before .before))
+    (c .before .before .loop .inv .0)
+    refl
     (omega arith)
     (omega arith)
 
@@ -89,12 +99,13 @@ advance-spec =
     (tie.spec
     Inv-loop
     μ-loop
-    wide-requires
-    frames-in-requires
+    cast-period
+    cast-in-use
+    in-use-requires
     loop-holds
-    mul-wide
-    array-read-wide
-    wide-requires-2
+    mul-sum
+    array-read-sum
+    cast-sum
     add-sum
     next-frame-requires
     add-until

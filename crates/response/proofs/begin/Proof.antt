@@ -6,12 +6,15 @@ use Rattle.response.proofs.Counting.{Framed, framed-in, no-period, no-f
 use Rattle.response.proofs.begin.Statement.{statement}
 use Rattle.response.proofs.begin.Tie as tie
 
-frames-in-requires : tie.Need-frames-in-requires
-frames-in-requires c κs = search needs
+cast-in-use : tie.Need-cast-in-use
+cast-in-use c = search needs
 
-framed : (c : tie.After-frames-in)
-    → Framed (higher-in (c .before .before .before .args .h) .task) (c .before .before .before .args .h .task .frames) (c .frames-in .result)
-framed c = framed-in _ (c .frames-in .ensures .1) (c .frames-in .ensures .0)
+in-use-requires : tie.Need-in-use-requires
+in-use-requires c κs = search needs
+
+framed : (c : tie.After-in-use)
+    → Framed (higher-in (c .before .before .before .args .h) .task) (c .before .before .before .args .h .task .frames) (c .in-use .result)
+framed c = framed-in _ (search needs) (c .in-use .ensures)
 
 returns : tie.Need-returns
 unfolding higher-in task-in
@@ -32,4 +35,4 @@ unfolding higher-in task-in
 returns-3 c = not-yet _ (c .before .before .if1 .left) (framed (c .before .before .before .before) .many) (c .before .if2 .left)
 
 pub begin-spec : {M : Type 1} → statement M
-begin-spec = tie.close (tie.spec frames-in-requires returns returns-2 cast-start rem-next returns-3)
+begin-spec = tie.close (tie.spec cast-in-use in-use-requires returns returns-2 cast-start rem-next returns-3)

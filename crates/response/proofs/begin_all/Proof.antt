@@ -15,8 +15,11 @@ Inv-loop tasks count counted₀ i₀ counted i = (i ≤ count) × Begun tasks i 
 abbrev μ-loop : tie.MeasureT-loop
 μ-loop tasks count counted₀ i₀ counted i = count - i
 
-above-in-requires : tie.Need-above-in-requires Inv-loop μ-loop
-above-in-requires c κs = search needs
+cast-in-use : tie.Need-cast-in-use Inv-loop μ-loop
+cast-in-use c = search needs
+
+in-use-requires : tie.Need-in-use-requires Inv-loop μ-loop
+in-use-requires c κs = search needs
 
 loop-holds : tie.Need-loop-holds Inv-loop μ-loop
 loop-holds c = (omega arith, begun-none _ _ (search needs))
@@ -47,7 +50,7 @@ loop-again c = (omega arith, begun-more _ (c .before .before .before .loop .inv 
 
 returns : tie.Need-returns Inv-loop μ-loop
 returns c =
-    let all : c .before .loop .i ≡ min (c .before .before .before .before .args .above .count) most-tasks = omega arith in
+    let all : c .before .loop .i ≡ min (c .before .before .before .before .before .args .above .count) most-tasks = omega arith in
     rw all at (c .before .loop .inv .1)
 
 pub begin-all-spec : {M : Type 1} → statement M
@@ -56,7 +59,8 @@ begin-all-spec =
     (tie.spec
     Inv-loop
     μ-loop
-    above-in-requires
+    cast-in-use
+    in-use-requires
     loop-holds
     mul-h
     array-copy-out-h

@@ -3,6 +3,7 @@ use mathlib.Core.Logic.{⊎-elim}
 use Prim.Native.Nat.{suc, _+_, _-_, _≤_}
 use native.Mathlib.Omega.{arith}
 use borrow.Author.Needs.{needs}
+use Rattle.sheet.proofs.Records.{mapped-length}
 use Rattle.response.proofs.Rounds.{task-above, count-at, Round, round-begins, round-skip, round-ready, round-count, round-most, round-total, round-again}
 use Rattle.response.proofs.Rounds.{NotBefore, not-before-first, not-before-demand, found, never, never-enough}
 use Rattle.response.proofs.respond.Statement.{statement}
@@ -20,20 +21,14 @@ Inv-loop blocked own deadline above limit count counted₀ total₀ x₀ counted
 abbrev μ-loop : tie.MeasureT-loop
 μ-loop blocked own deadline above limit count counted₀ total₀ x₀ counted total x = suc limit - x
 
-wide-requires : tie.Need-wide-requires Inv-loop2 μ-loop2 Inv-loop μ-loop
-wide-requires c κs = search needs
+cast-in-use : tie.Need-cast-in-use Inv-loop2 μ-loop2 Inv-loop μ-loop
+cast-in-use c = search needs
 
-above-in-requires : tie.Need-above-in-requires Inv-loop2 μ-loop2 Inv-loop μ-loop
-above-in-requires c κs = search needs
+in-use-requires : tie.Need-in-use-requires Inv-loop2 μ-loop2 Inv-loop μ-loop
+in-use-requires c κs = search needs
 
 begin-all-requires : tie.Need-begin-all-requires Inv-loop2 μ-loop2 Inv-loop μ-loop
 begin-all-requires c κs = search needs
-
-wide-requires-2 : tie.Need-wide-requires-2 Inv-loop2 μ-loop2 Inv-loop μ-loop
-wide-requires-2 c κs = search needs
-
-wide-requires-3 : tie.Need-wide-requires-3 Inv-loop2 μ-loop2 Inv-loop μ-loop
-wide-requires-3 c κs = search needs
 
 add-total : tie.Need-add-total Inv-loop2 μ-loop2 Inv-loop μ-loop
 add-total c = omega arith
@@ -43,9 +38,8 @@ at-least-one-requires c κs = search needs
 
 loop-holds : tie.Need-loop-holds Inv-loop2 μ-loop2 Inv-loop μ-loop
 loop-holds c = (
-  rw (c .before .before .wide2 .ensures .0, c .before .wide3 .ensures .0)
-      (round-begins _ _ _ (c .before .before .before .before .above-in .ensures .1) (c .before .before .before .begin-all .ensures)),
-  rw (c .at-least-one .ensures, c .before .before .wide2 .ensures .0, c .before .wide3 .ensures .0) (not-before-first _ _ _),
+  round-begins _ _ _ (search (needs, mapped-length)) (c .before .begin-all .ensures),
+  rw (c .at-least-one .ensures) (not-before-first _ _ _),
   omega arith,
 )
 
@@ -127,11 +121,9 @@ respond-spec =
     μ-loop2
     Inv-loop
     μ-loop
-    wide-requires
-    above-in-requires
+    cast-in-use
+    in-use-requires
     begin-all-requires
-    wide-requires-2
-    wide-requires-3
     add-total
     at-least-one-requires
     loop-holds

@@ -2,8 +2,9 @@
 use mathlib.Core.Path.{_≡_}
 use borrow.Author.Needs.{needs}
 use denote.Ref.{now}
-use lib.ListN.{length, length-map}
+use lib.ListN.{length}
 use Rattle.sheet.specs.Constants.{most-tasks}
+use Rattle.sheet.proofs.Records.{mapped-length}
 use Rattle.writer.proofs.Admitted.{policy-in, tasks-in}
 use Rattle.writer.proofs.Whole.{header-room, records-room, whole}
 use Rattle.writer.proofs.put_sheet.Statement.{statement}
@@ -11,7 +12,7 @@ use Rattle.writer.proofs.put_sheet.Tie as tie
 
 -- the array of a set's records has its sixteen slots
 long : (c : tie.Start) → length (c .args .set .tasks) ≡ most-tasks
-long c = simp length-map at (c .good .1 .0 .1 .1 .1 .1 .0 .1 .0 .1)
+long c = search (needs, mapped-length)
 
 put-header-requires : tie.Need-put-header-requires
 put-header-requires c κs =

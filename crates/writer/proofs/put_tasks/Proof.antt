@@ -2,8 +2,9 @@
 use mathlib.Core.Path.{_≡_}
 use Prim.Native.Nat.{_-_}
 use native.Mathlib.Omega.{arith}
-use lib.ListN.{length, length-map}
+use lib.ListN.{length}
 use Rattle.sheet.specs.Constants.{most-tasks}
+use Rattle.sheet.proofs.Records.{mapped-length}
 use Rattle.writer.proofs.Admitted.{tasks-in}
 use Rattle.writer.proofs.Turns.{puttable-at, Stand, stand-none, stand-space, stand-more, stand-all}
 use borrow.Author.Needs.{needs}
@@ -18,7 +19,7 @@ abbrev μ-loop : tie.MeasureT-loop
 
 -- the array of a set's records has its sixteen slots
 long : (c : tie.Start Inv-loop μ-loop) → length (c .args .t3 .tasks) ≡ most-tasks
-long c = simp length-map at (c .good .1 .1 .0 .1 .1 .1 .1 .0 .1 .0 .1)
+long c = search (needs, mapped-length)
 
 cast-count : tie.Need-cast-count Inv-loop μ-loop
 cast-count c = search needs
