@@ -1,10 +1,12 @@
 -- The shapes of a set's tasks, found one by one.
-use mathlib.Core.List.{List, map}
-use mathlib.Core.Path.{_≡_, sym, ap, _∙_}
+use mathlib.Core.List.{List, [], map}
+use mathlib.Core.Path.{_≡_, refl, sym, ap, _∙_}
 use Prim.Native.Nat.{ℕ, _+_, _≤_, _<_}
 use native.Mathlib.Omega.{arith}
-use lib.ListN.{length, getD, take, set, replicate, length-map, List·getD-map}
+use lib.ListN.{length, getD, take, set, replicate, length-map, List·getD-map, List·getD-append}
 use lib.Seq.{getD-take, length-take-le}
+use Rattle.theory.specs.First.{first}
+use Rattle.theory.specs.Tasks.{Task, task-at, start-frame, frame-count, largest}
 use Rattle.sheet.specs.Constants.{most-tasks}
 use Rattle.sheet.specs.Tasks.{task-in}
 use Rattle.sheet.specs.declared.Task.{Task as Record}
@@ -38,3 +40,14 @@ module _ (records : List Record) (count : ℕ) where
     unfolding shapes-up-to shapes-of
     shapes-all i e =
         rw (all-filled most-tasks no-shape (map shape-of (map task-in (take count records))) i (many ∙ e), length-map (map task-in (take count records)) shape-of)
+
+-- the shape at a task's number is the task's
+pub shape-there : (tasks : List Task) (i : ℕ) → i < length tasks → getD (shapes-of tasks) i no-shape ≡ shape-of (task-at tasks i)
+unfolding shapes-of task-at shape-of start-frame frame-count first largest
+shape-there tasks i h =
+    List·getD-append (map shape-of tasks) _ no-shape i (rw (length-map tasks shape-of) h)
+    ∙ ap (λ (x : Shape). getD (map shape-of tasks) i x) none
+    ∙ List·getD-map shape-of tasks i (record { period = 0; deadline = 0; lock = 0; frames = [] })
+  where
+    none : no-shape ≡ shape-of (record { period = 0; deadline = 0; lock = 0; frames = [] })
+    none = refl

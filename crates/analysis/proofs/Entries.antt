@@ -3,14 +3,14 @@ use mathlib.Core.List.{List, [], _∷_, _++_, map}
 use mathlib.Core.Path.{_≡_, refl, sym, ap, _∙_}
 use Prim.Native.Nat.{ℕ, _≤_, _<_, zero, suc, _+_, _-_, _*_, zero-le}
 use native.Mathlib.Omega.{arith}
-use lib.ListN.{length, getD, drop, length-append, length-replicate, drop-of-length-le, List·getD-eq-default}
+use lib.ListN.{length, getD, drop, length-append, length-replicate, drop-of-length-le, List·getD-eq-default, List·getD-append}
 use lib.Seq.{take-at, drop-cons}
 use Rattle.theory.specs.Tasks.{Task, task-at, frame-count}
 use Rattle.theory.specs.Analysis.{verdict}
 use Rattle.lent.specs.Checks.{Check, first-refusal}
-use Rattle.lent.specs.Lent.{refusal-of, answered, left-after}
+use Rattle.lent.specs.Lent.{Call, laid, refusal-of, answered, left-after}
 use Rattle.lent.proofs.Checks.{none-first}
-use Rattle.lent.proofs.Lent.{by-checks, turned-tells}
+use Rattle.lent.proofs.Lent.{by-checks, done}
 use Rattle.sheet.specs.Constants.{most-tasks, most-frames}
 use Rattle.sheet.specs.Tasks.{task-in, records-of, set-with}
 use Rattle.sheet.specs.Admission.{decided, list-checks, admission}
@@ -26,14 +26,21 @@ use Rattle.sheet.proofs.Checks.{none-applies, one-applies}
 use Rattle.sheet.proofs.Records.{tasks-with}
 use Rattle.sheet.proofs.Carried.{by-admission, by-reading, reading-answer, admitted-reading}
 use Rattle.sheet.proofs.Analysable.{admitted-set-is-admitted}
+use Rattle.sheet.proofs.RoundTrip.{admitted-reading-admits}
+use Rattle.reader.specs.Sheets.{sheet-judged}
+use Rattle.admission.specs.Judged.{shape-of, shapes-of, turned-away, judged}
+use Rattle.admission.specs.declared.Judged.{Judged}
+use Rattle.admission.specs.declared.Shape.{Shape}
+use Rattle.admission.proofs.Answers.{judged-tells}
+use Rattle.admission.proofs.Shapes.{shape-there}
 use Rattle.order.specs.Order.{priority-order, ordered-set}
 use Rattle.order.specs.Ordered.{order-of, ordered, tasks-in-order}
 use Rattle.order.specs.declared.Ordered.{Ordered}
-use Rattle.order.proofs.Laws.{ordered-admitted, ordered-tasks, ordered-length, ordered-at}
+use Rattle.order.proofs.Laws.{ordered-admitted, ordered-tasks, ordered-length, ordered-at, order-of-length}
 use Rattle.analysis.specs.Times.{verdict-number, outcome-of, number-at, place-of, slots-of, slots-from, times-of}
 use Rattle.analysis.specs.Findings.{findings-of, finding-at, findings-from, past-end, finding-in, numbers-found, in-turn, times-by-number}
 use Rattle.analysis.specs.Answers.{refused-analysis, analysis-by, set-analysis, sheet-analysis, analysing, set-analysing, set-outcome, set-left, sheet-analysing, sheet-outcome, sheet-left}
-use Rattle.analysis.specs.Inside.Steps.{HasFrames, numbers-of}
+use Rattle.analysis.specs.Inside.Steps.{Analysable, Shaped, numbers-of}
 use Rattle.analysis.specs.Inside.Numbered.{Numbered}
 use Rattle.analysis.specs.Inside.Delivery.{delivering, delivered-outcome, delivered}
 use Rattle.analysis.specs.declared.Outcome.{Outcome}
@@ -141,106 +148,133 @@ refused-numbered policy tasks r =
       eight = λ p h. let z : ⊥ = omega arith in absurd z;
     }
 
+-- an analysis can go to task-number order, refused or not
+numbered-by : (a : Answer) (policy : ℕ) (tasks : List Task) → (a ≡ Admitted → (length tasks ≤ most-tasks) × Each FramesCounted tasks)
+    → Numbered (analysis-by a policy tasks)
+numbered-by Admitted policy tasks h = let (small, counted) = h refl in analysis-numbered policy tasks small counted
+numbered-by (refused r) policy tasks h = refused-numbered policy tasks r
+
+pub set-numbered : (s : TaskSet) → length (s .tasks) ≡ most-tasks → Numbered (set-analysis s)
+unfolding set-analysis
+set-numbered s room = numbered-by (admission s) (s .policy) (map task-in (records-of s)) (λ e. let c = by-admission s room e in (c .few-tasks, c .counted))
+
+pub sheet-numbered : (s : List ℕ) → Numbered (sheet-analysis s)
+unfolding sheet-analysis
+sheet-numbered s = numbered-by (decided (sheet-checks s)) (policy-of s) (tasks-of s) (λ e. let c = by-reading s (reading-answer s ∙ e) in (c .few-tasks, c .counted))
+
 -- ---- the ordered copy of an admitted set
 
 module _ (s : TaskSet) (room : length (s .tasks) ≡ most-tasks) (e : admission s ≡ Admitted) where
   abbrev tasks : List Task
   tasks = map task-in (records-of s)
 
-  pub has-frames : HasFrames (tasks-in-order (ordered s))
-  has-frames =
-      record {
-        framed = λ p h.
-            rw (ordered-tasks s) (ordered-admitted (s .policy) tasks (admitted-set-is-admitted s room e) .each-task p (rw (ordered-tasks s) at h) .well-formed .has-frame);
-      }
+  few-tasks : length tasks ≤ most-tasks
+  few-tasks = by-admission s room e .few-tasks
 
   numbers-are : numbers-of (ordered s) ≡ priority-order (s .policy) tasks
   unfolding numbers-of ordered order-of
   numbers-are = take-at (priority-order (s .policy) tasks) _ (length (priority-order (s .policy) tasks)) refl
 
-  -- what the steps find is the analysis, and its numbers are in order
-  pub analysis-is : (o : Ordered) (out : Outcome) (n : ℕ) (findings : List Finding) → o ≡ ordered s
-      → out ≡ verdict-number (numbers-of o) (verdict (tasks-in-order o)) → n ≡ length tasks → findings ≡ findings-of (numbers-of o) (tasks-in-order o)
-      → _≡_ {A = Analysis} (record { outcome = out; «task_count» = n; findings = findings }) (analysis-by Admitted (s .policy) tasks)
+  counted : ordered s .count ≡ length tasks
+  unfolding ordered
+  counted = order-of-length s
+
+  -- the number at a place, and its task
+  number-there : (p : ℕ) → p < length tasks → getD (ordered s .numbers) p 0 ≡ getD (priority-order (s .policy) tasks) p 0
+  unfolding ordered order-of
+  number-there p h = List·getD-append (priority-order (s .policy) tasks) _ 0 p (omega (arith, order-length (s .policy) tasks))
+
+  in-tasks : (p : ℕ) → p < length (tasks-in-order (ordered s)) → p < length tasks
+  in-tasks p h = omega (arith, ap length (ordered-tasks s), ordered-length (s .policy) tasks)
+
+  pub shaped : (shapes : List Shape) → shapes ≡ shapes-of tasks → Shaped (ordered s) shapes
+  unfolding shapes-of
+  shaped shapes es =
+      record {
+        framed = λ p h.
+            rw (ordered-tasks s) (ordered-admitted (s .policy) tasks (admitted-set-is-admitted s room e) .each-task p (rw (ordered-tasks s) at h) .well-formed .has-frame);
+        numbered = λ p h. let k = in-tasks p h in rw (number-there p k) (omega (arith, order-permutes (s .policy) tasks .each-place p k, few-tasks));
+        shape-is = λ p h. let k = in-tasks p h in
+            rw (es, number-there p k, ordered-tasks s, ordered-at (s .policy) tasks p k) (shape-there tasks (getD (priority-order (s .policy) tasks) p 0) (order-permutes (s .policy) tasks .each-place p k));
+      }
+
+  -- what the steps find is the analysis
+  pub analysis-is : (o : Ordered) (out : Outcome) (findings : List Finding) → o ≡ ordered s
+      → out ≡ verdict-number (numbers-of o) (verdict (tasks-in-order o)) → findings ≡ findings-of (numbers-of o) (tasks-in-order o)
+      → _≡_ {A = Analysis} (record { outcome = out; «task_count» = o .count; findings = findings }) (analysis-by Admitted (s .policy) tasks)
   unfolding analysis-by outcome-of
-  analysis-is o out n findings eo e-out en ef = rw (e-out, en, ef, eo, numbers-are, ordered-tasks s)
+  analysis-is o out findings eo e-out ef = rw (e-out, ef, eo, numbers-are, ordered-tasks s, counted)
 
-  pub set-numbered : Numbered (analysis-by Admitted (s .policy) tasks)
-  set-numbered = let c = by-admission s room e in analysis-numbered (s .policy) tasks (c .few-tasks) (c .counted)
+-- ---- a set that was judged
 
--- the set of an admitted sheet
-set-of-reading : (s : List ℕ) → reading s .answer ≡ Admitted
-    → analysis-by Admitted (reading s .set .policy) (map task-in (records-of (reading s .set))) ≡ analysis-by Admitted (policy-of s) (tasks-of s)
-unfolding set-with
-set-of-reading s e =
-    ap (λ (r : Reading). analysis-by Admitted (r .set .policy) (map task-in (records-of (r .set)))) (admitted-reading s e)
-    ∙ ap (analysis-by Admitted (policy-of s)) (tasks-with (policy-of s) (tasks-of s))
+module _ (j : Judged) (a : Answer) (s : TaskSet) (e : j ≡ judged a s) where
+  -- it can be analysed, if it is one of sixteen records that is admitted
+  pub analysable : (a ≡ Admitted → admission s ≡ Admitted) → Analysable j
+  unfolding judged
+  analysable h =
+      record {
+        admits = λ t. let x = judged-tells j a s Admitted e t in rw (e, x) (h x);
+        shapes-are = λ t. rw (e, judged-tells j a s Admitted e t) refl;
+      }
+
+  -- and its analysis is that of the set
+  pub of-judged : analysis-by (j .answer) (j .set .policy) (map task-in (records-of (j .set))) ≡ analysis-by a (s .policy) (map task-in (records-of s))
+  unfolding judged turned-away analysis-by
+  of-judged = rw e (go a)
+    where
+      go : (a : Answer) → analysis-by (judged a s .answer) (judged a s .set .policy) (map task-in (records-of (judged a s .set))) ≡ analysis-by a (s .policy) (map task-in (records-of s))
+      go Admitted = refl
+      go (refused r) = refl
+
+-- the set of an admitted sheet is admitted, and its analysis is the sheet's
+module _ (j : Judged) (s : List ℕ) (e : j ≡ sheet-judged s) where
+  pub sheet-admits : Analysable j
+  unfolding sheet-judged
+  sheet-admits =
+      analysable j _ _ e
+      (λ a. let r = reading-answer s ∙ a in ap (λ (x : Reading). admission (x .set)) (sym (admitted-reading s r)) ∙ admitted-reading-admits s r)
+
+  pub of-sheet : analysis-by (j .answer) (j .set .policy) (map task-in (records-of (j .set))) ≡ sheet-analysis s
+  unfolding sheet-judged sheet-analysis set-with
+  of-sheet = of-judged j _ _ e ∙ ap (analysis-by (decided (sheet-checks s)) (policy-of s)) (tasks-with (policy-of s) (tasks-of s))
 
 -- ---- lent numbers
 
--- What an analysis delivers is what the call answers and leaves, of tasks that no check turns away.
+-- What an analysis delivers is what the call answers and leaves.
 module _ (cs : List (Check Refusal)) (policy : ℕ) (tasks : List Task) (room : List ℕ) where
+  abbrev call : Call Refusal ℕ Outcome
+  call = analysing cs policy tasks
+
   admitted-delivers : decided cs ≡ Admitted
-      → (delivered-outcome (analysis-by Admitted policy tasks) room ≡ answered Room Refused (analysing cs policy tasks) room)
-      × (delivered (analysis-by Admitted policy tasks) room ≡ left-after Room (analysing cs policy tasks) room)
+      → (delivered-outcome (analysis-by Admitted policy tasks) room ≡ answered Room Refused call room)
+      × (delivered (analysis-by Admitted policy tasks) room ≡ left-after Room call room)
   unfolding delivered-outcome delivered delivering analysing answered left-after refusal-of first-refusal analysis-by
   admitted-delivers e = rw (none-first cs _ (none-applies cs e), by-number-is policy tasks) (refl, refl)
 
-  refused-leaves : (r : Refusal) → decided cs ≡ refused r
-      → (Refused r ≡ answered Room Refused (analysing cs policy tasks) room) × (room ≡ left-after Room (analysing cs policy tasks) room)
-  unfolding analysing
-  refused-leaves r e = turned-tells Room Refused (analysing cs policy tasks) room (by-checks Room Refused (analysing cs policy tasks) room r (one-applies cs r e))
+  refused-delivers : (r : Refusal) → decided cs ≡ refused r
+      → (delivered-outcome (refused-analysis r) room ≡ answered Room Refused call room) × (delivered (refused-analysis r) room ≡ left-after Room call room)
+  unfolding analysing delivered-outcome delivered delivering first-refusal refused-analysis times-by-number in-turn laid
+  refused-delivers r e =
+      let t = by-checks Room Refused call room r (one-applies cs r e) in
+      let d = done Room Refused (delivering (refused-analysis r)) room refl zero-le in
+      (d .answer ∙ sym (t .answer), d .holds ∙ sym (t .unchanged))
 
--- a set by value, and a sheet
-module _ (s : TaskSet) (room : List ℕ) where
-  pub set-done : admission s ≡ Admitted
-      → (delivered-outcome (analysis-by Admitted (s .policy) (map task-in (records-of s))) room ≡ set-outcome s room)
-      × (delivered (analysis-by Admitted (s .policy) (map task-in (records-of s))) room ≡ set-left s room)
-  unfolding set-outcome set-left set-analysing admission
-  set-done e = admitted-delivers (list-checks (s .policy) (s .«task_count») (records-of s)) (s .policy) (map task-in (records-of s)) room e
+  delivers : (delivered-outcome (analysis-by (decided cs) policy tasks) room ≡ answered Room Refused call room)
+      × (delivered (analysis-by (decided cs) policy tasks) room ≡ left-after Room call room)
+  unfolding analysis-by
+  delivers = go (decided cs) refl
+    where
+      go : (a : Answer) → decided cs ≡ a
+          → (delivered-outcome (analysis-by a policy tasks) room ≡ answered Room Refused call room) × (delivered (analysis-by a policy tasks) room ≡ left-after Room call room)
+      go Admitted e = admitted-delivers e
+      go (refused r) e = refused-delivers r e
 
-  pub set-turned : (r : Refusal) → admission s ≡ refused r → (Refused r ≡ set-outcome s room) × (room ≡ set-left s room)
-  unfolding set-outcome set-left set-analysing admission
-  set-turned r e = refused-leaves (list-checks (s .policy) (s .«task_count») (records-of s)) (s .policy) (map task-in (records-of s)) room r e
+pub set-delivers : (s : TaskSet) (room : List ℕ)
+    → (delivered-outcome (set-analysis s) room ≡ set-outcome s room) × (delivered (set-analysis s) room ≡ set-left s room)
+unfolding set-analysis set-outcome set-left set-analysing admission
+set-delivers s room = delivers (list-checks (s .policy) (s .«task_count») (records-of s)) (s .policy) (map task-in (records-of s)) room
 
-module _ (s room : List ℕ) where
-  pub sheet-done : reading s .answer ≡ Admitted
-      → (delivered-outcome (analysis-by Admitted (reading s .set .policy) (map task-in (records-of (reading s .set)))) room ≡ sheet-outcome s room)
-      × (delivered (analysis-by Admitted (reading s .set .policy) (map task-in (records-of (reading s .set)))) room ≡ sheet-left s room)
-  unfolding sheet-outcome sheet-left sheet-analysing
-  sheet-done e =
-      rw (set-of-reading s e) (admitted-delivers (sheet-checks s) (policy-of s) (tasks-of s) room (sym (reading-answer s) ∙ e))
-
-  pub sheet-turned : (r : Refusal) → reading s .answer ≡ refused r → (Refused r ≡ sheet-outcome s room) × (room ≡ sheet-left s room)
-  unfolding sheet-outcome sheet-left sheet-analysing
-  sheet-turned r e = refused-leaves (sheet-checks s) (policy-of s) (tasks-of s) room r (sym (reading-answer s) ∙ e)
-
--- ---- by value
-
-module _ (s : TaskSet) where
-  pub set-admitted : admission s ≡ Admitted → analysis-by Admitted (s .policy) (map task-in (records-of s)) ≡ set-analysis s
-  unfolding set-analysis
-  set-admitted e = rw e
-
-  pub set-refused : (r : Refusal) → admission s ≡ refused r → refused-analysis r ≡ set-analysis s
-  unfolding set-analysis analysis-by
-  set-refused r e = rw e
-
-module _ (s : List ℕ) where
-  pub sheet-admitted : reading s .answer ≡ Admitted
-      → analysis-by Admitted (reading s .set .policy) (map task-in (records-of (reading s .set))) ≡ sheet-analysis s
-  unfolding sheet-analysis
-  sheet-admitted e = set-of-reading s e ∙ ap (λ (a : Answer). analysis-by a (policy-of s) (tasks-of s)) (sym (sym (reading-answer s) ∙ e))
-
-  pub sheet-refused : (r : Refusal) → reading s .answer ≡ refused r → refused-analysis r ≡ sheet-analysis s
-  unfolding sheet-analysis analysis-by
-  sheet-refused r e = rw (← reading-answer s, e)
-
--- the analysis of a sheet can go to task-number order, refused or not
-pub sheet-numbered : (s : List ℕ) → Numbered (sheet-analysis s)
-unfolding sheet-analysis
-sheet-numbered s = go (decided (sheet-checks s)) refl
-  where
-    go : (a : Answer) → decided (sheet-checks s) ≡ a → Numbered (analysis-by a (policy-of s) (tasks-of s))
-    go Admitted e = let c = by-reading s (reading-answer s ∙ e) in analysis-numbered (policy-of s) (tasks-of s) (c .few-tasks) (c .counted)
-    go (refused r) e = refused-numbered (policy-of s) (tasks-of s) r
+pub sheet-delivers : (s room : List ℕ)
+    → (delivered-outcome (sheet-analysis s) room ≡ sheet-outcome s room) × (delivered (sheet-analysis s) room ≡ sheet-left s room)
+unfolding sheet-analysis sheet-outcome sheet-left sheet-analysing
+sheet-delivers s room = delivers (sheet-checks s) (policy-of s) (tasks-of s) room

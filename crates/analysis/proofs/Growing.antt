@@ -11,6 +11,7 @@ use Rattle.theory.specs.Analysis.{Higher, higher}
 use Rattle.sheet.specs.Constants.{most-tasks}
 use Rattle.sheet.specs.Tasks.{task-in}
 use Rattle.sheet.specs.declared.Task.{Task as Record}
+use Rattle.admission.specs.declared.Shape.{Shape}
 use Rattle.order.specs.Ordered.{tasks-in-order, blocking-at}
 use Rattle.order.specs.declared.Ordered.{Ordered}
 use Rattle.response.specs.Response.{higher-in, above-in}
@@ -18,7 +19,7 @@ use Rattle.response.specs.declared.Above.{Above}
 use Rattle.response.specs.declared.Higher.{Higher as HigherRecord}
 use Rattle.analysis.specs.Times.{number-at}
 use Rattle.analysis.specs.Findings.{no-finding, findings-from, findings-of}
-use Rattle.analysis.specs.Inside.Steps.{HasFrames, numbers-of, finding-to}
+use Rattle.analysis.specs.Inside.Steps.{Shaped, numbers-of, finding-to}
 use Rattle.analysis.specs.declared.Finding.{Finding}
 use Rattle.sheet.proofs.Filled.{filled, none-filled, filled-more, all-filled}
 use Rattle.analysis.proofs.ByPlace.{finding-is-at, length-findings, finding-first}
@@ -54,7 +55,7 @@ above-more set above p r s ec hr hs ea et es =
     last : _≡_ {A = Higher} (record { task = task-in r; start = s }) (record { task = task-at set p; start = start-frame (task-at set p) })
     last = rw (es, et)
 
-module _ (o : Ordered) (framed : HasFrames (tasks-in-order o)) (few : length (tasks-in-order o) ≤ most-tasks) where
+module _ (o : Ordered) (shapes : List Shape) (shaped : Shaped o shapes) (few : length (tasks-in-order o) ≤ most-tasks) where
   abbrev all : List Finding
   all = findings-from (numbers-of o) (tasks-in-order o) 0 (length (tasks-in-order o))
 
@@ -75,7 +76,7 @@ module _ (o : Ordered) (framed : HasFrames (tasks-in-order o)) (few : length (ta
         findings-are =
             ap (λ (l : List Finding). lib.ListN.set l p f) (g .findings-are)
             ∙ filled-more most-tasks no-finding all p no-finding f (rw all-length h) (omega arith)
-            (ef ∙ finding-is-at (numbers-of o) (tasks-in-order o) p above number blocked r (framed .framed p h) (g .above-are) numbered eb et
+            (ef ∙ finding-is-at (numbers-of o) (tasks-in-order o) p above number blocked r (shaped .framed p h) (g .above-are) numbered eb et
             ∙ sym (finding-first (numbers-of o) (tasks-in-order o) (length (tasks-in-order o)) p no-finding h));
       }
 

@@ -1,31 +1,22 @@
 // What is found of each task of an ordered set, place by place.
 ghost use mathlib.Core.Path.{_≡_};
 ghost use mathlib.Core.Bool.{true};
-ghost use Rattle.theory.specs.Tasks.{start-frame, shortest-deadline};
+ghost use Rattle.theory.specs.Tasks.{shortest-deadline};
 ghost use Rattle.sheet.specs.Tasks.{task-in};
+ghost use Rattle.admission.specs.Judged.{shape-of};
 ghost use Rattle.order.specs.Ordered.{tasks-in-order};
 ghost use Rattle.response.specs.Response.{response-to};
 ghost use Rattle.analysis.specs.Times.{slots-by};
 ghost use Rattle.analysis.specs.Findings.{findings-of};
-ghost use Rattle.analysis.specs.Inside.Steps.{HasFrames, numbers-of, as-written, times-to, finding-with, finding-to};
+ghost use Rattle.analysis.specs.Inside.Steps.{Shaped, numbers-of, as-written, times-to, finding-with, finding-to};
 use crate::Finding;
-use admission::Start;
+use admission::Shape;
 use order::Ordered;
 use response::Above;
 use response::Higher;
 use response::Response;
 use sheet::Sheet;
 use sheet::Task;
-
-// The start frame; 0 where there is none.
-fn start_or_zero(task: Task) -> u32
-    ensures { λ r. ⌜ r ≡ start-frame (task-in task) ⌝ }
-{
-    match admission::start_frame(task) {
-        Start::At(s) => s,
-        Start::Nowhere => 0,
-    }
-}
 
 // A response time as it is written: 0 where there is none.
 fn as_written(r: Response) -> u32
@@ -88,10 +79,11 @@ fn finding(
 }
 
 // A task passes if its largest frame has a response time.
-fn finding_of(above: Above, number: u32, blocked: u32, task: Task) -> Finding
+fn finding_of(above: Above, number: u32, blocked: u32, task: Task, shape: Shape) -> Finding
+    requires { ⌜ shape ≡ shape-of (task-in task) ⌝ }
     ensures { λ r. ⌜ r ≡ finding-to above number blocked task ⌝ }
 {
-    let largest = admission::largest_time(task);
+    let largest = shape.largest;
     match response::respond(above, blocked, largest, sheet::shortest_deadline(task)) {
         Response::At(t) => finding(
             number,
@@ -105,13 +97,13 @@ fn finding_of(above: Above, number: u32, blocked: u32, task: Task) -> Finding
 }
 
 // What is found of all places; the tasks above grow from place to place.
-pub fn findings_of(o: Ordered) -> [Finding; Sheet::TASK_ROOM]
-    requires { ⌜ HasFrames (tasks-in-order o) ⌝ }
+pub fn findings_of(o: Ordered, shapes: [Shape; Sheet::TASK_ROOM]) -> [Finding; Sheet::TASK_ROOM]
+    requires { ⌜ Shaped o shapes ⌝ }
     ensures { λ r. ⌜ r ≡ findings-of (numbers-of o) (tasks-in-order o) ⌝ }
 {
     let tasks = o.tasks;
     let numbers = o.numbers;
-    let count = sheet::tasks_in(o.count, tasks);
+    let count = sheet::in_use(o.count as usize, Sheet::TASK_ROOM);
     let mut findings = [Finding::blank(); Sheet::TASK_ROOM];
     let nobody = Higher {
         start: 0,
@@ -123,10 +115,13 @@ pub fn findings_of(o: Ordered) -> [Finding; Sheet::TASK_ROOM]
     };
     for p in 0..count {
         let task = tasks[p];
-        let f = finding_of(above, numbers[p], order::blocking(o, p as u32), task);
+        let number = numbers[p];
+        let shape = shapes[number as usize];
+        let blocked = order::blocking(o, p as u32);
+        let f = finding_of(above, number, blocked, task, shape);
         findings[p] = f;
         let h = Higher {
-            start: start_or_zero(task),
+            start: shape.start,
             task,
         };
         above.tasks[p] = h;

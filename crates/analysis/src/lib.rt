@@ -4,14 +4,17 @@ ghost use mathlib.Core.Path.{_≡_};
 ghost use Rattle.sheet.specs.Tasks.{task-in, records-of};
 ghost use Rattle.sheet.specs.Admission.{admission};
 ghost use Rattle.sheet.specs.declared.Answer.the-variants.{Admitted};
+ghost use Rattle.admission.specs.Judged.{shapes-of};
 ghost use Rattle.analysis.specs.Findings.{no-finding};
 ghost use Rattle.analysis.specs.Answers.{blocker-code, code, refused-analysis, analysis-by, set-analysis, sheet-analysis, set-outcome, set-left, sheet-outcome, sheet-left};
-ghost use Rattle.analysis.specs.Inside.Numbered.{Numbered};
+ghost use Rattle.analysis.specs.Inside.Steps.{Analysable};
 
 mod delivery;
 mod findings;
 mod verdict;
 
+use admission::Judged;
+use admission::Shape;
 use order::Blocker;
 use sheet::Answer;
 use sheet::Refusal;
@@ -106,19 +109,31 @@ fn refused(refusal: Refusal) -> Analysis
 }
 
 // An admitted set: put in order and analysed place by place.
-fn analysed(set: TaskSet) -> Analysis
-    requires { ⌜ admission set ≡ Admitted ⌝ }
-    ensures { λ r. ⌜ (r ≡ analysis-by Admitted (set .policy) (map task-in (records-of set))) × (Numbered r) ⌝ }
+fn analysed(set: TaskSet, shapes: [Shape; Sheet::TASK_ROOM]) -> Analysis
+    requires { ⌜ (admission set ≡ Admitted) × (shapes ≡ shapes-of (map task-in (records-of set))) ⌝ }
+    ensures { λ r. ⌜ r ≡ analysis-by Admitted (set .policy) (map task-in (records-of set)) ⌝ }
 {
-    let tasks = set.tasks;
-    let count = sheet::tasks_in(set.task_count, tasks);
     let o = order::in_order(set);
-    let findings = findings::findings_of(o);
+    let findings = findings::findings_of(o, shapes);
     let outcome = verdict::verdict_of(o, findings);
     Analysis {
         outcome,
-        task_count: count as u32,
+        task_count: o.count,
         findings,
+    }
+}
+
+// The analysis of a set that was judged.
+fn analysis_of(judged: Judged) -> Analysis
+    requires { ⌜ Analysable judged ⌝ }
+    ensures { λ r. ⌜ r ≡ analysis-by (judged .answer) (judged .set .policy) (map task-in (records-of (judged .set))) ⌝ }
+{
+    let answer = judged.answer;
+    let set = judged.set;
+    let shapes = judged.shapes;
+    match answer {
+        Answer::Admitted => analysed(set, shapes),
+        Answer::Refused(refusal) => refused(refusal),
     }
 }
 
@@ -126,44 +141,26 @@ fn analysed(set: TaskSet) -> Analysis
 pub fn analysis_of_set(set: TaskSet) -> Analysis
     ensures { λ r. ⌜ r ≡ set-analysis set ⌝ }
 {
-    match admission::admit(set) {
-        Answer::Admitted => analysed(set),
-        Answer::Refused(refusal) => refused(refusal),
-    }
+    analysis_of(admission::admit(set))
 }
 
 // The analysis of a sheet.
 pub fn analysis_of_sheet(bytes: &[u8]) -> Analysis
     ensures { λ r. ⌜ r ≡ sheet-analysis (now (bytes .entry)) ⌝ }
 {
-    let reading = reader::read_sheet(bytes);
-    let answer = reading.answer;
-    let set = reading.set;
-    match answer {
-        Answer::Admitted => analysed(set),
-        Answer::Refused(refusal) => refused(refusal),
-    }
+    analysis_of(reader::admit_sheet(bytes))
 }
 
 // Analyses a set by value; its times go to lent numbers.
 pub fn analyse_set(set: TaskSet, times: &mut [u32]) -> Outcome
     ensures { λ r. ⌜ (r ≡ set-outcome set (now (times .entry))) × (now (times .exit) ≡ set-left set (now (times .entry))) ⌝ }
 {
-    match admission::admit(set) {
-        Answer::Admitted => delivery::deliver(analysed(set), times),
-        Answer::Refused(refusal) => Outcome::Refused(refusal),
-    }
+    delivery::deliver(analysis_of_set(set), times)
 }
 
 // Analyses a sheet; its times go to lent numbers.
 pub fn analyse_sheet(bytes: &[u8], times: &mut [u32]) -> Outcome
     ensures { λ r. ⌜ (r ≡ sheet-outcome (now (bytes .entry)) (now (times .entry))) × (now (times .exit) ≡ sheet-left (now (bytes .entry)) (now (times .entry))) ⌝ }
 {
-    let reading = reader::read_sheet(bytes);
-    let answer = reading.answer;
-    let set = reading.set;
-    match answer {
-        Answer::Admitted => delivery::deliver(analysed(set), times),
-        Answer::Refused(refusal) => Outcome::Refused(refusal),
-    }
+    delivery::deliver(analysis_of_sheet(bytes), times)
 }

@@ -1,10 +1,18 @@
--- What the steps over an ordered set hand on: a finding by the tasks above and the blocking.
+-- What the steps from a judged set to its findings ask and hand on.
 use mathlib.Core.Bool.{Bool, true, false}
 use mathlib.Core.List.{List, map}
+use mathlib.Core.Path.{_≡_}
 use Prim.Native.Nat.{ℕ, _≤_, _<_}
-use lib.ListN.{length, take}
+use lib.ListN.{length, getD, take}
 use Rattle.theory.specs.Tasks.{Task, task-at, frame-count, largest, shortest-deadline}
-use Rattle.sheet.specs.Tasks.{task-in}
+use Rattle.sheet.specs.Constants.{most-tasks}
+use Rattle.sheet.specs.Tasks.{task-in, records-of}
+use Rattle.sheet.specs.Admission.{admission}
+use Rattle.sheet.specs.declared.Answer.the-variants.{Admitted}
+use Rattle.admission.specs.Judged.{shape-of, no-shape, shapes-of}
+use Rattle.admission.specs.declared.Judged.{Judged}
+use Rattle.admission.specs.declared.Shape.{Shape}
+use Rattle.order.specs.Ordered.{tasks-in-order}
 use Rattle.sheet.specs.declared.Task.{Task as Record}
 use Rattle.order.specs.declared.Ordered.{Ordered}
 use Rattle.response.specs.Response.{response-to}
@@ -14,9 +22,16 @@ use Rattle.response.specs.declared.Above.{Above}
 use Rattle.analysis.specs.Times.{slots-by}
 use Rattle.analysis.specs.declared.Finding.{Finding}
 
--- each task has a frame
-pub record HasFrames (set : List Task) : Type 0 where
-  pub framed : (p : ℕ) → p < length set → 1 ≤ frame-count (task-at set p)
+-- a set that was judged: where the answer admits it, it is admitted, with the shapes of its tasks
+pub record Analysable (j : Judged) : Type 0 where
+  pub admits : j .answer ≡ Admitted → admission (j .set) ≡ Admitted
+  pub shapes-are : j .answer ≡ Admitted → j .shapes ≡ shapes-of (map task-in (records-of (j .set)))
+
+-- an ordered set and its shapes by number: each task has a frame, and at its number stands its shape
+pub record Shaped (o : Ordered) (shapes : List Shape) : Type 0 where
+  pub framed : (p : ℕ) → p < length (tasks-in-order o) → 1 ≤ frame-count (task-at (tasks-in-order o) p)
+  pub numbered : (p : ℕ) → p < length (tasks-in-order o) → getD (o .numbers) p 0 < most-tasks
+  pub shape-is : (p : ℕ) → p < length (tasks-in-order o) → getD shapes (getD (o .numbers) p 0) no-shape ≡ shape-of (task-at (tasks-in-order o) p)
 
 -- the task numbers of an ordered set, in priority order
 unfoldable pub numbers-of : Ordered → List ℕ

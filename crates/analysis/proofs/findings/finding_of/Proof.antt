@@ -3,17 +3,16 @@ use mathlib.Core.Bool.{true}
 use mathlib.Core.List.{List}
 use mathlib.Core.Path.{_≡_, sym, ap, _∙_}
 use Prim.Native.Nat.{ℕ}
-use Rattle.theory.specs.Tasks.{shortest-deadline}
+use Rattle.theory.specs.Tasks.{Task, largest, shortest-deadline}
 use Rattle.sheet.specs.Tasks.{task-in}
+use Rattle.admission.specs.Judged.{shape-of}
+use Rattle.admission.specs.declared.Shape.{Shape}
 use Rattle.response.specs.Response.{response-to}
 use Rattle.analysis.specs.Inside.Steps.{as-written, finding-with}
 use Rattle.analysis.proofs.ByPlace.{finding-there, finding-never}
 use borrow.Author.Needs.{needs}
 use Rattle.analysis.proofs.findings.finding_of.Statement.{statement}
 use Rattle.analysis.proofs.findings.finding_of.Tie as tie
-
-largest-time-requires : tie.Need-largest-time-requires
-largest-time-requires c κs = search needs
 
 shortest-deadline-requires : tie.Need-shortest-deadline-requires
 shortest-deadline-requires c κs = search needs
@@ -24,13 +23,18 @@ respond-requires c κs = search needs
 enum-known-t : tie.Need-enum-known-t
 enum-known-t c = search needs
 
+-- the largest frame is the task's
+largest-is : (s : Shape) (t : Task) → s ≡ shape-of t → largest (t .frames) ≡ s .largest
+unfolding shape-of
+largest-is s t e = sym (ap (λ (x : Shape). x .largest) e)
+
 -- what `respond` answers, by the definitions
 answer : (c : tie.After-respond)
-    → let a = c .before .before .before .args in
-    c .respond .result ≡ response-to (a .above) (a .blocked) (c .before .before .largest-time .result) (shortest-deadline (task-in (a .task)))
+    → let a = c .before .before .args in
+    c .respond .result ≡ response-to (a .above) (a .blocked) (a .shape .largest) (shortest-deadline (task-in (a .task)))
 answer c =
-    let a = c .before .before .before .args in
-    c .respond .ensures ∙ ap (response-to (a .above) (a .blocked) (c .before .before .largest-time .result)) (c .before .shortest-deadline .ensures)
+    let a = c .before .before .args in
+    c .respond .ensures ∙ ap (response-to (a .above) (a .blocked) (a .shape .largest)) (c .before .shortest-deadline .ensures)
 
 times-to-requires : tie.Need-times-to-requires
 times-to-requires c κs = ap as-written (sym (c .before .t .given .1) ∙ answer (c .before .before .before))
@@ -48,27 +52,26 @@ returns : tie.Need-returns
 returns c =
     let k = c .before .before in
     let r = k .before .before .before in
-    let a = r .before .before .before .args in
+    let a = r .before .before .args in
     c .finding .ensures
     ∙ ap (λ (ts : List ℕ). finding-with (a .number) (a .blocked) (task-in (a .task)) true ts) (c .before .times-to .ensures)
     ∙ sym (finding-there (a .above) (a .number) (a .blocked) (a .task) _
-    (ap (λ (x : ℕ). response-to (a .above) (a .blocked) x (shortest-deadline (task-in (a .task)))) (sym (r .before .before .largest-time .ensures))
+    (ap (λ (x : ℕ). response-to (a .above) (a .blocked) x (shortest-deadline (task-in (a .task)))) (largest-is _ _ (r .before .before .pre))
     ∙ sym (answer r) ∙ k .before .t .given .1))
 
 returns-2 : tie.Need-returns-2
 returns-2 c =
     let r = c .before .before .before in
-    let a = r .before .before .before .args in
+    let a = r .before .before .args in
     c .finding2 .ensures
     ∙ sym (finding-never (a .above) (a .number) (a .blocked) (a .task)
-    (ap (λ (x : ℕ). response-to (a .above) (a .blocked) x (shortest-deadline (task-in (a .task)))) (sym (r .before .before .largest-time .ensures))
+    (ap (λ (x : ℕ). response-to (a .above) (a .blocked) x (shortest-deadline (task-in (a .task)))) (largest-is _ _ (r .before .before .pre))
     ∙ sym (answer r) ∙ c .before .enum-told .given .1))
 
 pub finding-of-spec : {M : Type 1} → statement M
 finding-of-spec =
     tie.close
     (tie.spec
-    largest-time-requires
     shortest-deadline-requires
     respond-requires
     enum-known-t

@@ -1,9 +1,13 @@
 -- `findings_of` meets its contract.
+use mathlib.Core.Path.{_≡_, refl, sym, ap, _∙_}
 use Prim.Native.Nat.{_≤_, _<_, _-_}
 use native.Mathlib.Omega.{arith}
-use mathlib.Core.Path.{_≡_, refl}
 use lib.ListN.{length}
+use Rattle.theory.specs.Tasks.{Task, start-frame}
 use Rattle.sheet.specs.Constants.{most-tasks}
+use Rattle.sheet.proofs.Records.{mapped-length}
+use Rattle.admission.specs.Judged.{shape-of}
+use Rattle.admission.specs.declared.Shape.{Shape}
 use Rattle.order.specs.Ordered.{tasks-in-order}
 use Rattle.analysis.proofs.Growing.{Grown, none-grown, grown-more, all-grown}
 use Rattle.analysis.proofs.InUse.{tasks-count, task-is}
@@ -12,14 +16,22 @@ use Rattle.analysis.proofs.findings.findings_of.Statement.{statement}
 use Rattle.analysis.proofs.findings.findings_of.Tie as tie
 
 abbrev Inv-loop : tie.InvT-loop
-Inv-loop o tasks numbers count findings₀ above₀ p₀ findings above p =
-    (p ≤ count) × (length (tasks-in-order o) ≡ count) × (count ≤ most-tasks) × Grown o findings above p
+Inv-loop o shapes tasks numbers count findings₀ above₀ p₀ findings above p =
+    (p ≤ count) × (length (tasks-in-order o) ≡ count) × (count ≤ most-tasks) × (length tasks ≡ most-tasks) × Grown o findings above p
 
 abbrev μ-loop : tie.MeasureT-loop
-μ-loop o tasks numbers count findings₀ above₀ p₀ findings above p = count - p
+μ-loop o shapes tasks numbers count findings₀ above₀ p₀ findings above p = count - p
 
-tasks-in-requires : tie.Need-tasks-in-requires Inv-loop μ-loop
-tasks-in-requires c κs = search needs
+-- the start frame of a shape is the task's
+start-is : (s : Shape) (t : Task) → s ≡ shape-of t → s .start ≡ start-frame t
+unfolding shape-of
+start-is s t e = ap (λ (x : Shape). x .start) e
+
+cast-in-use : tie.Need-cast-in-use Inv-loop μ-loop
+cast-in-use c = search needs
+
+in-use-requires : tie.Need-in-use-requires Inv-loop μ-loop
+in-use-requires c κs = search needs
 
 blank-requires : tie.Need-blank-requires Inv-loop μ-loop
 blank-requires c κs = search needs
@@ -29,21 +41,39 @@ blank-requires-2 c κs = search needs
 
 loop-holds : tie.Need-loop-holds Inv-loop μ-loop
 loop-holds c =
-    let o = c .before .before .before .before .before .args .o in
-    let n = c .before .before .tasks-in .ensures in
-    (search needs, tasks-count o _ n, omega arith, none-grown o _ _ (c .before .blank .ensures))
+    let o = c .before .before .before .before .before .before .args .o in
+    let room : length (o .tasks) ≡ most-tasks = search (needs, mapped-length) in
+    (search needs, tasks-count o _ (c .before .before .in-use .ensures, room), omega arith, room, none-grown o _ _ (c .before .blank .ensures))
 
 mul-task : tie.Need-mul-task Inv-loop μ-loop
 mul-task c = search needs
 
 array-copy-out-task : tie.Need-array-copy-out-task Inv-loop μ-loop
-array-copy-out-task c = omega arith
+array-copy-out-task c = search needs
 
-mul-finding-of : tie.Need-mul-finding-of Inv-loop μ-loop
-mul-finding-of c = search needs
+mul-number : tie.Need-mul-number Inv-loop μ-loop
+mul-number c = search needs
 
-array-read-finding-of : tie.Need-array-read-finding-of Inv-loop μ-loop
-array-read-finding-of c = search needs
+array-read-number : tie.Need-array-read-number Inv-loop μ-loop
+array-read-number c = search needs
+
+cast-shape : tie.Need-cast-shape Inv-loop μ-loop
+cast-shape c =
+    let at = c .before .before in
+    let below = c .before .before .before .before .before .before .before .before .before .pre .numbered (at .loop .p) (omega (arith, at .loop .inv .1)) in
+    record { fits = omega (arith, below) }
+
+mul-shape : tie.Need-mul-shape Inv-loop μ-loop
+mul-shape c =
+    let at = c .before .before in
+    let below = c .before .before .before .before .before .before .before .before .before .pre .numbered (at .loop .p) (omega (arith, at .loop .inv .1)) in
+    record { fits = omega (arith, below) }
+
+array-copy-out-shape : tie.Need-array-copy-out-shape Inv-loop μ-loop
+array-copy-out-shape c =
+    let at = c .before .before in
+    let below = c .before .before .before .before .before .before .before .before .before .pre .numbered (at .loop .p) (omega (arith, at .loop .inv .1)) in
+    below
 
 cast-blocking : tie.Need-cast-blocking Inv-loop μ-loop
 cast-blocking c = search needs
@@ -52,22 +82,23 @@ blocking-requires : tie.Need-blocking-requires Inv-loop μ-loop
 blocking-requires c κs = search needs
 
 finding-of-requires : tie.Need-finding-of-requires Inv-loop μ-loop
-finding-of-requires c κs = search needs
+finding-of-requires c κs =
+    let at = c .before .before .before .before in
+    let start = c .before .before .before .before .before .before .before .before .before .before .before in
+    let inside : at .loop .p < length (tasks-in-order (start .args .o)) = omega (arith, at .loop .inv .1) in
+    start .pre .shape-is (at .loop .p) inside ∙ ap shape-of (sym (task-is (start .args .o) (at .loop .p) _ inside (at .loop .inv .3)))
 
 mul-findings : tie.Need-mul-findings Inv-loop μ-loop
 mul-findings c = search needs
 
 array-set-from-findings : tie.Need-array-set-from-findings Inv-loop μ-loop
-array-set-from-findings c = omega arith
-
-start-or-zero-requires : tie.Need-start-or-zero-requires Inv-loop μ-loop
-start-or-zero-requires c κs = search needs
+array-set-from-findings c = search needs
 
 mul-h : tie.Need-mul-h Inv-loop μ-loop
 mul-h c = search needs
 
 element-set-from-h : tie.Need-element-set-from-h Inv-loop μ-loop
-element-set-from-h c = omega arith
+element-set-from-h c = search needs
 
 cast-above : tie.Need-cast-above Inv-loop μ-loop
 cast-above c = search needs
@@ -84,22 +115,24 @@ loop-less c = search needs
 loop-again : tie.Need-loop-again Inv-loop μ-loop
 loop-again c =
     let at = c .before .before .before .before .before in
-    let o = at .before .before .before .before .before .before .args .o in
-    let n = at .before .before .before .tasks-in .ensures in
+    let start = c .before .before .before .before .before .before .before .before .before .before .before .before in
+    let o = start .args .o in
     let p = at .loop .p in
     let inside : p < length (tasks-in-order o) = omega (arith, at .loop .inv .1) in
-    let few : length (tasks-in-order o) ≤ most-tasks = omega (arith, at .loop .inv .1) in (
+    let few : length (tasks-in-order o) ≤ most-tasks = omega (arith, at .loop .inv .1) in
+    let task = task-is o p _ inside (at .loop .inv .3) in (
       search needs,
       at .loop .inv .1,
       at .loop .inv .2,
-      grown-more o (at .before .before .before .before .before .before .pre) few _ _ p _ _ _ _ _ inside (at .loop .inv .3)
-          (task-is o p _ inside (n .1)) refl (c .before .before .blocking .ensures) (c .before .finding-of .ensures) (c .start-or-zero .ensures),
+      at .loop .inv .3,
+      grown-more o (start .args .t2) (start .pre) few _ _ p _ _ _ _ _ inside (at .loop .inv .4) task refl (c .before .blocking .ensures) (c .finding-of .ensures)
+          (start-is _ _ (start .pre .shape-is p inside ∙ ap shape-of (sym task))),
     )
 
 returns : tie.Need-returns Inv-loop μ-loop
 returns c =
-    let o = c .before .before .before .before .before .before .before .args .o in
-    all-grown o (c .before .before .before .before .before .before .before .pre) (omega (arith, c .before .loop .inv .1)) _ _ _ (omega (arith, c .before .loop .inv .1)) (c .before .loop .inv .3)
+    let start = c .before .before .before .before .before .before .before .before in
+    all-grown (start .args .o) (start .args .t2) (start .pre) (omega (arith, c .before .loop .inv .1)) _ _ _ (omega (arith, c .before .loop .inv .1)) (c .before .loop .inv .4)
 
 pub findings-of-spec : {M : Type 1} → statement M
 findings-of-spec =
@@ -107,20 +140,23 @@ findings-of-spec =
     (tie.spec
     Inv-loop
     μ-loop
-    tasks-in-requires
+    cast-in-use
+    in-use-requires
     blank-requires
     blank-requires-2
     loop-holds
     mul-task
     array-copy-out-task
-    mul-finding-of
-    array-read-finding-of
+    mul-number
+    array-read-number
+    cast-shape
+    mul-shape
+    array-copy-out-shape
     cast-blocking
     blocking-requires
     finding-of-requires
     mul-findings
     array-set-from-findings
-    start-or-zero-requires
     mul-h
     element-set-from-h
     cast-above
