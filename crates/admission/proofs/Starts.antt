@@ -1,15 +1,15 @@
 -- The start frame: frame by frame and length by length, and from the frames alone.
-use mathlib.Core.Bool.{Bool, true, false, true≢false}
-use mathlib.Core.Option.{Option, Option·getD, none, some}
+use mathlib.Core.Bool.{Bool, true, false}
+use mathlib.Core.Option.{Option, none, some}
 use mathlib.Core.Path.{_≡_, refl, sym, ap, _∙_, fun-ext}
 use Prim.Native.Nat.{ℕ, zero, suc, _+_, _-_, _≤_, _<_}
 use native.Mathlib.Nat.{sub-zero}
 use native.Mathlib.Omega.{arith}
 use lib.Dec.{leb}
 use Rattle.theory.specs.First.{first, every}
-use Rattle.theory.specs.Tasks.{Task, frame-count, frame, work, qualifies, start-frame, Monotonic}
-use Rattle.theory.proofs.Search.{every-at, every-is, some-found, none-found}
-use Rattle.theory.proofs.Work.{work-zero, work-suc, monotonic-test}
+use Rattle.theory.specs.Tasks.{Task, frame-count, frame, work, qualifies}
+use Rattle.theory.proofs.Search.{every-at, every-is}
+use Rattle.theory.proofs.Work.{work-zero, work-suc}
 use Rattle.admission.specs.Inside.Frames.{of-frames, from-at-least}
 use Rattle.admission.specs.Start.{start-found, start-of}
 use Rattle.admission.specs.declared.Start.the-variants.{At, Nowhere}
@@ -91,12 +91,3 @@ module _ (t : Task) where
   pub start-of-frames : start-of (of-frames (t .frames)) ≡ start-of t
   unfolding start-of frame-count of-frames
   start-of-frames = ap (λ (q : ℕ → Bool). start-found (first 0 (frame-count t) q)) (fun-ext qualifies-of-frames)
-
-  -- a start that was found is the start frame of an accumulatively monotonic task; where none was, the task is not one
-  pub start-at : (s : ℕ) → start-of t ≡ At s → (start-frame t ≡ s) × Monotonic t
-  unfolding start-of start-frame
-  start-at s e = let q = found-at _ s e in (ap (λ (o : Option ℕ). Option·getD o 0) q, monotonic-test t .0 (some-found q))
-
-  pub start-nowhere : start-of t ≡ Nowhere → Monotonic t → ⊥
-  unfolding start-of
-  start-nowhere e m = true≢false (sym (monotonic-test t .1 m) ∙ none-found (found-nowhere _ e))

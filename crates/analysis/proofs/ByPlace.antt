@@ -23,7 +23,7 @@ use Rattle.analysis.specs.Times.{number-at, times-from, slots-by, slots-
 use Rattle.analysis.specs.Findings.{finding-at, findings-from, findings-of}
 use Rattle.analysis.specs.Inside.Steps.{as-written, is-there, times-to, finding-with, finding-to}
 use Rattle.analysis.specs.declared.Finding.{Finding}
-use Rattle.sheet.proofs.Filled.{filled, length-filled, filled-more, all-filled}
+use Rattle.sheet.proofs.Filled.{filled, filled-more, all-filled}
 
 -- the time of a frame of the task at a place, by the frame's length
 module _ (set : List Task) (p : ℕ) where
@@ -112,9 +112,6 @@ module _ (above : Above) (blocked deadline n : ℕ) (frames : List ℕ) (small :
   up-to-more times k t h e et =
       rw e (filled-more most-frames 0 (times-in above blocked deadline (take n frames)) k (as-written (response-to above blocked 0 deadline)) t
       (rw count h) (omega arith) (et ∙ sym (time-in above blocked deadline frames n k h (omega arith))))
-
-  pub up-to-length : (times : List ℕ) (k : ℕ) → k ≤ n → times ≡ up-to k → length times ≡ most-frames
-  up-to-length times k h e = rw e (length-filled most-frames 0 (times-in above blocked deadline (take n frames)) k (rw count h) (omega arith))
 
   pub up-to-all : (k : ℕ) → n ≡ k → up-to k ≡ times-in above blocked deadline (take n frames) ++ replicate (most-frames - length (times-in above blocked deadline (take n frames))) 0
   up-to-all k e = all-filled most-frames 0 (times-in above blocked deadline (take n frames)) k (count ∙ e)

@@ -1,15 +1,12 @@
 -- Task numbers and places: each is found from the other.
-use mathlib.Core.Bool.{Bool, true}
 use mathlib.Core.List.{List}
-use mathlib.Core.Option.{Option, some, Option·getD}
-use mathlib.Core.Path.{_≡_, refl, sym, ap, _∙_}
-use Prim.Native.Nat.{ℕ, _≤_, _<_, zero-le}
+use mathlib.Core.Path.{_≡_}
+use Prim.Native.Nat.{ℕ, _<_, zero-le}
 use native.Mathlib.Omega.{arith}
 use borrow.Author.Tests.{eqb-true, eq-eqb}
 use lib.Dec.{eqb}
 use lib.ListN.{length, getD}
-use Rattle.theory.specs.First.{first}
-use Rattle.theory.proofs.Search.{IsFirst, first-some, first-exists}
+use Rattle.theory.proofs.Search.{first-some, first-exists}
 use Rattle.order.specs.Claims.{Permutes}
 use Rattle.analysis.specs.Times.{number-at, place-of}
 

@@ -1,13 +1,13 @@
 -- A field and the few bytes that it touches: `span` bytes from byte `first` on, `lead` bits before the field and `past` behind it.
 use mathlib.Core.Bool.{Bool}
-use mathlib.Core.List.{List, _++_, append-assoc}
-use mathlib.Core.Path.{_≡_, refl, sym, ap, ap₂, _∙_}
+use mathlib.Core.List.{List, _++_}
+use mathlib.Core.Path.{_≡_, sym, ap, _∙_}
 use Prim.Native.Nat.{ℕ, _+_, _-_, _*_, _/_, _%_, _^_, _≤_, _<_}
 use native.Mathlib.Omega.{arith}
-use lib.ListN.{length, take, drop, length-append, length-take, length-drop, take-append-drop}
+use lib.ListN.{length, take, drop, length-take, length-drop, take-append-drop}
 use lib.Seq.{drop-append-seam}
 use Rattle.bits.specs.Packed.{value, digits, Bytes, bits-of, bytes-of, field, with-field}
-use Rattle.bits.proofs.Laws.{length-digits, value-digits, digits-value, length-bits, bits-append, bits-bytes, equal-bits, length-bytes, bytes-are-bytes, bytes-append, bytes-take, bytes-drop}
+use Rattle.bits.proofs.Laws.{length-digits, value-digits, digits-value, length-bits, bits-append, bits-bytes, equal-bits, bytes-are-bytes, bytes-append, bytes-take, bytes-drop}
 use Rattle.bits.proofs.Numbers.{number-lt}
 use Rattle.bits.proofs.Within.{Inside}
 use Rattle.bits.proofs.Fields.{field-drop, field-append, with-field-inside, length-with-field, take-digits, put-digits, replaced}

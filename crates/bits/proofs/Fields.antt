@@ -1,22 +1,18 @@
 -- Laws of a field, over its width and position: what was put is read back, everything else stays, fields one after another compose.
-use mathlib.Core.Bool.{Bool, false}
-use mathlib.Core.List.{List, [], _∷_, _++_, append-assoc}
-use mathlib.Core.Path.{_≡_, refl, sym, ap, ap₂, _∙_}
-use Prim.Native.Nat.{ℕ, zero, suc, _+_, _-_, _*_, _/_, _%_, _^_, _≤_, _<_}
-use native.Mathlib.Nat.{add-assoc, add-comm, mod-lt, lt-of-lt-of-le, mod-eq-of-lt, mod-add-mod, mul-add-mod-self-right}
+use mathlib.Core.Bool.{Bool}
+use mathlib.Core.List.{List, _++_, append-assoc}
+use mathlib.Core.Path.{_≡_, sym, ap, ap₂, _∙_}
+use Prim.Native.Nat.{ℕ, _+_, _-_, _*_, _/_, _%_, _^_, _≤_, _<_}
+use native.Mathlib.Nat.{add-assoc, mod-lt, mod-eq-of-lt}
 use native.Mathlib.Omega.{arith}
 use lib.Arith.{digits-lt}
 use lib.ListN.{length, take, drop, length-append, length-take, length-drop, take-append-drop}
 use lib.Pow.{pow-add, pow-pos, high, low}
-use lib.Seq.{take-at, drop-at, take-append-le, drop-append-le, take-append-add, drop-append-add, take-append-seam, drop-append-seam, drop-drop, take-all}
-use Rattle.bits.specs.Packed.{value, digits, bits-of, bytes-of, field, with-field}
+use lib.Seq.{take-at, drop-at, take-append-le, drop-append-le, take-append-add, drop-append-add, take-append-seam, drop-drop}
+use Rattle.bits.specs.Packed.{digits, field, with-field}
 use Rattle.bits.proofs.Laws.{length-digits, digits-split, digits-low}
 
 -- ---- where a field lies
-
-pub length-field : (at w : ℕ) (bs : List Bool) → at + w ≤ length bs → length (field at w bs) ≡ w
-unfolding field
-length-field at w bs h = simp (length-take, length-drop) (omega arith)
 
 pub field-drop : (m at w : ℕ) (bs : List Bool) → field (m + at) w bs ≡ field at w (drop m bs)
 unfolding field

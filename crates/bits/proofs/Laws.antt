@@ -1,18 +1,17 @@
 -- Laws of numbers and their digits, and of byte strings and their bits, each once over the width.
 use mathlib.Core.Bool.{Bool, true, false}
 use mathlib.Core.List.{List, [], _∷_, _++_, append-assoc}
-use mathlib.Core.Path.{_≡_, refl, sym, ap, ap₂, _∙_, subst}
-use Prim.Native.Nat.{ℕ, zero, suc, _+_, _*_, _/_, _%_, _^_, _≤_, _<_}
-use native.Mathlib.Nat.{zero-add, add-zero, suc-add, add-comm, mod-one, mod-lt, mod-eq-of-lt, mul-one, div-one, lt-of-lt-of-le, pow-suc, mul-comm, mul-suc}
+use mathlib.Core.Path.{_≡_, refl, sym, ap, ap₂, _∙_}
+use Prim.Native.Nat.{ℕ, zero, suc, _+_, _*_, _/_, _%_, _^_, _<_}
+use native.Mathlib.Nat.{zero-add, suc-add, add-comm, mod-one, mod-lt, mod-eq-of-lt, lt-of-lt-of-le, pow-suc, mul-comm}
 use native.Mathlib.Numerals.{one-add}
 use native.Mathlib.Omega.{arith}
 use lib.Arith as A
 use lib.Dec.{eqb, lit<}
-use lib.ListN.{length, getD, take, drop, length-append, length-take, length-drop, take-append-drop}
+use lib.ListN.{length, take, drop, length-append, length-take, length-drop, take-append-drop}
 use lib.Pow.{pow-mono, pow-add, high, low, mod-pow-add, mod-mod-pow, shr-shr}
 use lib.Pow as P
-use lib.Seq.{take-at, drop-at, take-append-add, drop-append-add, take-append-seam, drop-append-seam, take-nil, drop-nil, getD-drop}
-use borrow.Author.Tests.{eq-eqb, ne-eqb}
+use lib.Seq.{take-append-add, take-append-seam, drop-append-seam, take-nil, getD-drop}
 use Rattle.bits.specs.Packed.{bit, value, odd, digits, Bytes, bits-of, bytes-of}
 
 -- ---- a digit
@@ -118,12 +117,6 @@ take-bits (suc n) [] = take-nil (8 * suc n)
 take-bits (suc n) (b ∷ s) =
     rw (eight-more n) (take-append-add (digits 8 b) (bits-of s) (8 * n)
     ∙ ap (λ (l : List Bool). digits 8 b ++ l) (take-bits n s))
-
-pub drop-bits : (n : ℕ) (s : List ℕ) → drop (8 * n) (bits-of s) ≡ bits-of (drop n s)
-unfolding bits-of digits
-drop-bits zero s = refl
-drop-bits (suc n) [] = drop-nil (8 * suc n)
-drop-bits (suc n) (b ∷ s) = rw (eight-more n) (drop-append-add (digits 8 b) (bits-of s) (8 * n) ∙ drop-bits n s)
 
 -- ---- the bytes of some bits
 

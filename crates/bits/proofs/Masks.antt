@@ -1,10 +1,9 @@
 -- What the shifts and masks on a 64-bit number compute, over the width.
-use mathlib.Core.Path.{_≡_, refl, sym, ap, ap₂, _∙_}
+use mathlib.Core.Path.{_≡_, sym, ap, _∙_}
 use Prim.Native.Nat.{ℕ, _+_, _-_, _*_, _/_, _%_, _^_, _≤_, _<_}
-use native.Mathlib.Nat.{one-mul, mod-lt, mod-eq-of-lt, lt-of-le-of-lt, lt-of-lt-of-le, le-of-lt, div-mul-le-self, add-assoc, div-eq-of-lt, div-lt-iff-lt-mul}
+use native.Mathlib.Nat.{one-mul, mod-lt, mod-eq-of-lt, lt-of-le-of-lt, lt-of-lt-of-le, div-mul-le-self, add-assoc, div-eq-of-lt, div-lt-iff-lt-mul}
 use native.Mathlib.Decide.{decLe}
 use native.Mathlib.Omega.{arith}
-use lib.Arith.{digits-lt}
 use lib.Bits.{bitAnd, bitOr, and-mask, or-shifted}
 use lib.Pow.{pow-pos, pow-add, pow-mono, pow-lt, shl-lt}
 use Rattle.bits.proofs.Fields.{replaced}

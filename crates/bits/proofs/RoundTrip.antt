@@ -1,16 +1,16 @@
 -- What was put is read back, everything else stays, and fields one after another compose: for every byte string, position and width.
-use mathlib.Core.Bool.{Bool, true, false, cond, _&&_}
+use mathlib.Core.Bool.{Bool}
 use mathlib.Core.List.{List, _++_}
 use mathlib.Core.Logic.{_⊎_, inl, inr}
-use mathlib.Core.Path.{_≡_, refl, sym, ap, ap₂, _∙_}
+use mathlib.Core.Path.{_≡_, sym, ap, _∙_}
 use Prim.Native.Nat.{ℕ, _+_, _-_, _*_, _^_, _≤_, _<_}
 use native.Mathlib.Nat.{mod-eq-of-lt}
 use native.Mathlib.Omega.{arith}
 use lib.ListN.{length}
-use Rattle.bits.specs.Packed.{value, digits, Bytes, bits-of, bytes-of, field, with-field}
-use Rattle.bits.specs.Faces.{within, taken, fits, stored}
+use Rattle.bits.specs.Packed.{value, digits, bits-of, field, with-field}
+use Rattle.bits.specs.Faces.{taken, stored}
 use Rattle.bits.specs.declared.Taken.the-variants.{Value}
-use Rattle.bits.proofs.Laws.{length-digits, value-digits, length-bits, length-bytes, bits-bytes, bytes-are-bytes}
+use Rattle.bits.proofs.Laws.{length-digits, value-digits, length-bits, length-bytes, bits-bytes}
 use Rattle.bits.proofs.Fields.{length-with-field, read-back, stays-before, stays-behind, with-fields}
 use Rattle.bits.proofs.Within.{Inside}
 use Rattle.bits.proofs.Faces.{taken-value, taken-bits, fits-well, stored-well}

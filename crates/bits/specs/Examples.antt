@@ -1,7 +1,6 @@
 -- Fields by hand: what the definitions give on two and four bytes.
-use mathlib.Core.List.{List, [], _∷_}
+use mathlib.Core.List.{[], _∷_}
 use mathlib.Core.Path.{_≡_, refl}
-use Prim.Native.Nat.{ℕ}
 use Rattle.bits.specs.Packed.{value, digits, bits-of, bytes-of, field, with-field}
 use Rattle.bits.specs.Faces.{within, taken, fits, stored}
 use Rattle.bits.specs.declared.Taken.the-variants.{Value, Outside}

@@ -1,6 +1,6 @@
 // Packed bits, most significant bit first: a field of 1 to 32 bits is taken from a byte string, or put into it, at any bit position.
 ghost use mathlib.Core.Path.{_≡_};
-ghost use Prim.Native.Nat.{ℕ, _+_, _-_, _*_, _/_, _%_, _^_, _≤_, _<_};
+ghost use Prim.Native.Nat.{_+_, _-_, _*_, _/_, _%_, _^_, _≤_, _<_};
 ghost use lib.ListN.{length};
 ghost use Rattle.bits.specs.Packed.{value, digits, bits-of, bytes-of};
 ghost use Rattle.bits.specs.Faces.{within, taken, fits, stored};

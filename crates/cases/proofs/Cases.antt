@@ -1,7 +1,5 @@
 -- Cases A to M: one statement over the table, computed.
-use mathlib.Core.List.{List, [], _∷_, map}
-use mathlib.Core.Path.{_≡_, refl}
-use mathlib.Core.Option.{Option·getD}
+use mathlib.Core.Path.{refl}
 use Rattle.bits.specs.Packed.{value, digits, bytes-of}
 use Rattle.check_word.specs.Division.{seal, body}
 use Rattle.theory.specs.First.{first, every, found}

@@ -1,14 +1,13 @@
 -- What a call with lent memory answers and leaves: turned away by its own checks, by the room, or done.
-use mathlib.Core.Bool.{true, false}
-use mathlib.Core.List.{List, [], _∷_, _++_}
+use mathlib.Core.List.{List, []}
 use mathlib.Core.Option.{Option, none, some}
-use mathlib.Core.Path.{_≡_, refl, sym, ap, _∙_}
-use Prim.Native.Nat.{ℕ, _≤_, _<_}
+use mathlib.Core.Path.{_≡_, refl, sym, _∙_}
+use Prim.Native.Nat.{_≤_, _<_}
 use native.Mathlib.Decide.{decLt}
 use native.Mathlib.Omega.{arith}
 use borrow.Author.Tests.{lt-ltb, le-ltb}
 use lib.ListN.{length}
-use Rattle.lent.specs.Checks.{Check, _⇒_, first-refusal}
+use Rattle.lent.specs.Checks.{first-refusal}
 use Rattle.lent.specs.Lent.{Call, laid, refusal-of, answered, left-after}
 use Rattle.lent.proofs.Checks.{applies, passed-over, no-check, none-first, some-first, Each, each-append, each-first}
 

@@ -2,7 +2,6 @@
 -- nothing. Over any kind of refusal, element and answer.
 use mathlib.Core.List.{List, [], _∷_, _++_}
 use mathlib.Core.Option.{Option, none, some}
-use Prim.Native.Nat.{ℕ}
 use lib.Dec.{ltb}
 use lib.ListN.{length, drop}
 use Rattle.lent.specs.Checks.{Check, _⇒_, first-refusal}

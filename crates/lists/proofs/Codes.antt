@@ -1,19 +1,19 @@
 -- The one number of an answer fits 32 bits: refusals name tasks below 32, and what else is answered is small.
-use mathlib.Core.Bool.{Bool, true, false}
-use mathlib.Core.List.{List, [], _∷_, _++_, map}
+use mathlib.Core.Bool.{Bool}
+use mathlib.Core.List.{List, [], _∷_, map}
 use mathlib.Core.Option.{none, some}
-use mathlib.Core.Path.{_≡_, refl, sym, subst, ap, _∙_}
+use mathlib.Core.Path.{_≡_, sym, subst, ap, _∙_}
 use Prim.Native.Nat.{ℕ, zero, suc, _+_, _≤_, _<_, _^_, min, zero-le}
 use native.Mathlib.Decide.{decLt}
 use native.Mathlib.Nat.{le-of-lt, min-le-left, min-le-right}
 use native.Mathlib.Omega.{arith}
-use lib.Dec.{ltb, lit<}
+use lib.Dec.{lit<}
 use lib.ListN.{length, getD, drop, replicate, length-map, length-take, length-replicate, List·getD-eq-default}
 use Rattle.bits.specs.Packed.{bits-of}
 use Rattle.check_word.specs.Division.{body}
 use Rattle.sheet.specs.Constants.{most-tasks, version-width, policy-width, task-count-width}
 use Rattle.sheet.specs.Tasks.{task-in, records-of, blank-record}
-use Rattle.sheet.specs.Refusals.{number-of, task-of-refusal}
+use Rattle.sheet.specs.Refusals.{task-of-refusal}
 use Rattle.records.specs.Rows.{unpacked}
 use Rattle.sheet.specs.Layout.{header-in, tasks-in, behind-header, record-width}
 use Rattle.lent.specs.Checks.{Check}
@@ -21,8 +21,8 @@ use Rattle.lent.proofs.Checks.{Each, each-append}
 use Rattle.lent.proofs.Laid.{laid-to-length, laid-most}
 use Rattle.lent.proofs.Lent.{Told, turned-away, is-done, told, each-refusal}
 use Rattle.sheet.specs.Admission.{admission, list-checks, policy-check, task-count-check, frame-count-check, frame-count-checks, task-checks}
-use Rattle.sheet.specs.Reading.{sheet-checks, layout-checks, policy-of, tasks-of}
-use Rattle.sheet.specs.Writing.{sheet-bytes, writing, written}
+use Rattle.sheet.specs.Reading.{sheet-checks, layout-checks, policy-of}
+use Rattle.sheet.specs.Writing.{writing, written}
 use Rattle.sheet.specs.declared.Refusal.{Refusal}
 use Rattle.sheet.specs.declared.Refusal.the-variants.{Room}
 use Rattle.sheet.proofs.Checks.{admits}

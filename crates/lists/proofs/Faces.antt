@@ -1,7 +1,7 @@
 -- The calls with a list say of the list what the set that it is gathered into says.
 use mathlib.Core.Bool.{Bool, true, false, not}
-use mathlib.Core.List.{List, [], _∷_, _++_, map}
-use mathlib.Core.Option.{Option, none, some}
+use mathlib.Core.List.{List, _++_, map}
+use mathlib.Core.Option.{some}
 use mathlib.Core.Path.{_≡_, refl, sym, ap, ap₂, _∙_}
 use Prim.Native.Nat.{ℕ, suc, _≤_, _<_, zero-le}
 use native.Mathlib.Decide.{decLe}
@@ -10,10 +10,9 @@ use native.Mathlib.Omega.{arith}
 use borrow.Author.Tests.{lt-ltb, ne-eqb}
 use lib.ListN.{length, take, drop, replicate, length-map, length-append, length-replicate}
 use lib.Seq.{take-all, take-at}
-use Rattle.lent.specs.Checks.{Check, first-refusal}
+use Rattle.lent.specs.Checks.{first-refusal}
 use Rattle.lent.specs.Lent.{Call, laid, answered, left-after}
 use Rattle.lent.proofs.Checks.{applies, passed-over}
-use Rattle.lent.proofs.Laid.{take-laid}
 use Rattle.lent.proofs.Lent.{by-checks, by-room, done, TurnedAway, Done}
 use Rattle.sheet.specs.Constants.{most-tasks}
 use Rattle.sheet.specs.Tasks.{task-in, record-of, records-of, blank-record, set-with, blank-set}

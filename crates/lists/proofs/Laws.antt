@@ -1,18 +1,18 @@
 -- Records laid over a list one by one, how many go, and the answer to a reading.
-use mathlib.Core.Bool.{Bool, true, false, cond, _&&_}
-use mathlib.Core.List.{List, [], _∷_}
+use mathlib.Core.Bool.{Bool}
+use mathlib.Core.List.{List, []}
 use mathlib.Core.Path.{_≡_, sym, ap, ap₂, _∙_}
-use Prim.Native.Nat.{ℕ, suc, _+_, _≤_, _<_, min, zero-le}
+use Prim.Native.Nat.{ℕ, suc, _+_, _≤_, _<_, min}
 use native.Mathlib.Decide.{decLe}
 use native.Mathlib.Omega.{arith}
 use borrow.Author.Tests.{le-leb, lt-leb, lt-ltb, le-ltb}
-use lib.Dec.{leb, ltb}
+use lib.Dec.{ltb}
 use lib.ListN.{length, getD, replicate}
 use lib.Seq.{length-take-le}
-use Rattle.lent.specs.Lent.{laid, left-after}
+use Rattle.lent.specs.Lent.{laid}
 use Rattle.lent.proofs.Checks.{applies, passed-over, no-check}
 use Rattle.lent.proofs.Laid.{laid-to, laid-none, laid-more, laid-all, laid-most}
-use Rattle.lent.proofs.Lent.{by-checks, by-room, done, TurnedAway, Done}
+use Rattle.lent.proofs.Lent.{by-checks, by-room, done, TurnedAway}
 use Rattle.sheet.specs.Constants.{most-tasks}
 use Rattle.sheet.specs.Tasks.{blank-record, records-of}
 use Rattle.sheet.specs.declared.Task.{Task}

@@ -109,10 +109,6 @@ module _ (bs : List Bool) where
     pub rest-zeros : value bs ≡ 0 → Zeros ≡ rest-of bs
     rest-zeros e = sym (by-set ∙ ap (λ (b : Bool). cond (not b) BitSet Zeros) (eq-eqb (value bs) 0 e))
 
-    pub rest-unset : some-set bs ≡ false → rest-of bs ≡ Zeros
-    unfolding rest-of
-    rest-unset e = ap₂ (λ (b c : Bool). cond b ByteLeft (cond c BitSet Zeros)) (lt-leb 8 (length bs) h) e
-
   pub rest-none : length bs ≡ 0 → Zeros ≡ rest-of bs
   rest-none e = rest-zeros (omega arith) (no-bits bs e)
 

@@ -6,7 +6,7 @@ use mathlib.Core.Path.{_≡_, refl, sym, ap, ap₂, _∙_}
 use Prim.Native.Nat.{ℕ, _+_, _-_, _*_, _≤_}
 use native.Mathlib.Omega.{arith}
 use borrow.Author.Tests.{eq-eqb}
-use lib.ListN.{length, take, drop, replicate, length-replicate}
+use lib.ListN.{length, take, drop, replicate}
 use lib.Seq.{drop-at, length-take-le}
 use Rattle.bits.specs.Packed.{digits, bits-of, bytes-of, field, with-field}
 use Rattle.bits.specs.Faces.{taken}
@@ -17,13 +17,13 @@ use Rattle.check_word.specs.Division.{body}
 use Rattle.check_word.proofs.Sealing.{body-seal}
 use Rattle.lent.specs.Lent.{laid}
 use Rattle.records.specs.Rows.{packed, unpacked, total}
-use Rattle.records.specs.Sealed.{sealed-record, sealed-size, whole-bytes, rest-of}
+use Rattle.records.specs.Sealed.{sealed-record, sealed-size, whole-bytes}
 use Rattle.records.specs.Faces.{row-fits, with-bits, stored-row, row-has-slots, taken-row, closed}
 use Rattle.records.specs.declared.Rest.the-variants.{Zeros}
 use Rattle.records.proofs.Packing.{length-packed, unpacked-packed}
 use Rattle.records.proofs.Rows.{as-many, fit-of}
 use Rattle.records.proofs.Faces.{Puts, puts, row-put, take-both}
-use Rattle.records.proofs.Filling.{fill-of, fill-short, bits-whole, zeros-unset, rest-unset}
+use Rattle.records.proofs.Filling.{fill-of, bits-whole}
 
 -- ---- bits put at a position
 
@@ -115,10 +115,3 @@ closed-is s n bits e h =
 pub record-bits : (bits : List Bool) → bits-of (body (sealed-record bits)) ≡ bits ++ replicate (fill-of bits) false
 unfolding sealed-record
 record-bits bits = ap bits-of (body-seal (whole-bytes bits)) ∙ bits-whole bits
-
-pub record-rest : (bits : List Bool) → rest-of (drop (length bits) (bits-of (body (sealed-record bits)))) ≡ Zeros
-record-rest bits =
-    let n = fill-of bits in
-    ap (λ (bs : List Bool). rest-of (drop (length bits) bs)) (record-bits bits)
-    ∙ ap rest-of (drop-at bits (replicate n false) (length bits) refl)
-    ∙ rest-unset (replicate n false) (rw (length-replicate n false) (fill-short bits)) (zeros-unset n)

@@ -1,5 +1,4 @@
--- Answers says what an answer means; the rest are laws of counting the jobs of higher tasks, and what they give for the rounds.
+-- Laws of counting the jobs of higher tasks, and what they give for the rounds.
 pub mod Counting
 pub mod UpTo
 pub mod Rounds
-pub mod Answers

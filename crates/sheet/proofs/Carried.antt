@@ -4,7 +4,7 @@ use mathlib.Core.List.{List, [], _∷_, _++_, map}
 use mathlib.Core.Path.{_≡_, refl, sym, ap, ap₂, _∙_}
 use Prim.Native.Nat.{ℕ, suc, _≤_}
 use native.Mathlib.Omega.{arith}
-use borrow.Author.Tests.{leb-true, ltb-false, le-ltb, eqb-true, not-false}
+use borrow.Author.Tests.{leb-true, eqb-true, not-false}
 use lib.Dec.{leb}
 use lib.ListN.{length, length-take, length-map}
 use Rattle.bits.specs.Packed.{bits-of}

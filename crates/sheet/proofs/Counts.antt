@@ -1,9 +1,9 @@
 -- What the tests of a count and of a policy say.
 use mathlib.Core.Bool.{Bool, true, false, not, _||_, true≢false}
 use mathlib.Core.Path.{_≡_, refl, ap}
-use Prim.Native.Nat.{ℕ, zero, suc, _≤_, _<_}
+use Prim.Native.Nat.{ℕ, zero, suc, _≤_}
 use native.Mathlib.Omega.{arith}
-use borrow.Author.Tests.{ltb-false, le-ltb, eqb-false, ne-eqb, leb-true, le-leb, lt-leb}
+use borrow.Author.Tests.{ltb-false, le-ltb, eqb-false, ne-eqb, leb-true}
 use lib.Dec.{ltb, eqb}
 use Rattle.sheet.specs.Constants.{deadline-monotonic}
 use Rattle.sheet.specs.Admission.{known-policy}
@@ -38,11 +38,3 @@ policy-passed policy e = go (known-policy policy) e
 pub known-small : (policy : ℕ) → known-policy policy ≡ true → policy ≤ deadline-monotonic
 unfolding known-policy
 known-small policy e = leb-true policy deadline-monotonic e
-
-pub small-known : (policy : ℕ) → policy ≤ deadline-monotonic → known-policy policy ≡ true
-unfolding known-policy
-small-known policy h = le-leb policy deadline-monotonic h
-
-pub large-unknown : (policy : ℕ) → deadline-monotonic < policy → not (known-policy policy) ≡ true
-unfolding known-policy
-large-unknown policy h = ap not (lt-leb policy deadline-monotonic h)

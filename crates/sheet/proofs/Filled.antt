@@ -1,11 +1,11 @@
 -- A row of slots that is filled from the front, one by one.
 use mathlib.Core.List.{List, _++_}
 use mathlib.Core.Path.{_≡_, sym, ap}
-use Prim.Native.Nat.{ℕ, suc, _+_, _-_, _≤_, _<_}
+use Prim.Native.Nat.{ℕ, suc, _+_, _-_, _<_}
 use native.Mathlib.Nat.{sub-zero}
 use native.Mathlib.Numerals.{add-one}
 use native.Mathlib.Omega.{arith}
-use lib.ListN.{length, getD, take, set, replicate, length-append, length-take, length-replicate}
+use lib.ListN.{length, getD, take, set, replicate, length-take}
 use lib.Seq.{take-suc, take-all, set-at, append-snoc}
 
 module _ {A : Type 0} (m : ℕ) (blank : A) (xs : List A) where
@@ -16,10 +16,6 @@ module _ {A : Type 0} (m : ℕ) (blank : A) (xs : List A) where
   pub none-filled : replicate m blank ≡ filled 0
   unfolding filled
   none-filled = ap (λ (n : ℕ). replicate n blank) (sym (sub-zero m))
-
-  pub length-filled : (i : ℕ) → i ≤ length xs → i ≤ m → length (filled i) ≡ m
-  unfolding filled
-  length-filled i h l = simp (length-append, length-take, length-replicate) (omega arith)
 
   pub filled-more : (i : ℕ) (d a : A) → i < length xs → i < m → a ≡ getD xs i d → set (filled i) i a ≡ filled (i + 1)
   unfolding filled

@@ -1,15 +1,15 @@
 -- Tasks put into records and taken out again, and the slots of a record and of a set that are in use.
-use mathlib.Core.List.{List, [], _∷_, _++_, map}
-use mathlib.Core.Path.{_≡_, refl, sym, ap, ap₂, _∙_}
-use Prim.Native.Nat.{ℕ, _≤_, _<_, _-_, min}
+use mathlib.Core.List.{List, [], _∷_, map}
+use mathlib.Core.Path.{_≡_, refl, ap, ap₂, _∙_}
+use Prim.Native.Nat.{ℕ, _≤_, _-_, min}
 use native.Mathlib.Decide.{decLe}
 use native.Mathlib.Nat.{min-eq-left, min-eq-right}
 use native.Mathlib.Omega.{arith}
-use lib.ListN.{length, getD, take, replicate, length-map}
+use lib.ListN.{length, take, length-map}
 use lib.Seq.{take-at, take-all}
 use Rattle.theory.specs.Tasks.{Task}
 use Rattle.sheet.specs.Constants.{most-tasks, most-frames}
-use Rattle.sheet.specs.Tasks.{task-in, record-of, records-of, set-with, blank-record}
+use Rattle.sheet.specs.Tasks.{task-in, record-of, records-of, set-with}
 use Rattle.sheet.specs.declared.Task.{Task as Record}
 use Rattle.sheet.specs.declared.TaskSet.{TaskSet}
 

@@ -17,7 +17,7 @@ use Rattle.sheet.specs.declared.Answer.the-variants.{Admitted}
 use Rattle.sheet.proofs.Records.{tasks-with}
 use Rattle.sheet.proofs.Carried.{count-in-use, by-admission, to-admission, found, by-reading, admitted-reading}
 use Rattle.sheet.proofs.SheetBits.{sheet-is-read, sheet-of-carried}
-use Rattle.sheet.proofs.WhatIsWritten.{IsWritten, is-written, bytes-written, take-left}
+use Rattle.sheet.proofs.WhatIsWritten.{is-written, bytes-written, take-left}
 
 -- Demand 2, a set first: the sheet of an admitted set is admitted, and is read as the same policy and the same tasks over the slots in use.
 -- (A set by value has sixteen records, of which `task_count` are in use.)

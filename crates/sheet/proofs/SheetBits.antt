@@ -9,9 +9,9 @@ use lib.Dec.{ltb, eqb}
 use lib.ListN.{length, replicate, take-append-drop}
 use lib.Seq.{length-take-le}
 use Rattle.bits.specs.Packed.{Bytes, bits-of}
-use Rattle.bits.proofs.Laws.{length-bits, bytes-take, bytes-are-bytes}
+use Rattle.bits.proofs.Laws.{length-bits, bytes-take}
 use Rattle.check_word.specs.Division.{seal, body, sealed}
-use Rattle.check_word.proofs.Sealing.{sealed-seal, seal-body, bytes-seal}
+use Rattle.check_word.proofs.Sealing.{sealed-seal, seal-body}
 use Rattle.records.specs.Rows.{total}
 use Rattle.records.specs.Sealed.{whole-bytes, sealed-record}
 use Rattle.records.proofs.Filling.{fill-of, fill-short, whole-of}
@@ -125,8 +125,3 @@ sheet-of-carried s h f =
     ap seal
     (whole-of (body s) (set-bits (policy-of s) (tasks-of s)) (f .layout .fill) (bytes-take (length s - 2) s h) (f .layout .short) (carried-bits s f))
     ∙ seal-body s h (f .sealed-well)
-
--- a sheet is a byte string
-pub sheet-is-bytes : (policy : ℕ) (ts : List Task) → Bytes (sheet-of policy ts)
-unfolding sheet-of sealed-record whole-bytes
-sheet-is-bytes policy ts = bytes-seal (whole-bytes (header-bits policy (length ts) ++ tasks-bits ts)) (bytes-are-bytes _ _)

@@ -1,10 +1,9 @@
 -- What is turned away of a task and of a list (SCOPE.md, "What is turned away"): rows of checks, of which the first that applies decides.
-use mathlib.Core.Bool.{Bool, true, false, not, _&&_, _||_}
+use mathlib.Core.Bool.{Bool, true, not, _&&_, _||_}
 use mathlib.Core.List.{List, [], _∷_, _++_, map}
 use mathlib.Core.Option.{Option, none, some}
-use Prim.Native.Nat.{ℕ, zero, suc}
+use Prim.Native.Nat.{ℕ, suc}
 use lib.Dec.{leb, ltb, eqb}
-use lib.ListN.{length}
 use Rattle.lent.specs.Checks.{Check, _⇒_, first-refusal}
 use Rattle.theory.specs.First.{first, found}
 use Rattle.theory.specs.Tasks.{Task, frame-count, largest, qualifies}

@@ -1,5 +1,4 @@
 -- The widths, limits and policy numbers of the sheet, each by name and once.
-use mathlib.Core.List.{List, [], _∷_}
 use Prim.Native.Nat.{ℕ}
 
 -- the fields of the header, in bits, and the version

@@ -1,6 +1,6 @@
 -- Tasks and the records that hold them (SCOPE.md, "A task and a set").
 use mathlib.Core.Bool.{cond}
-use mathlib.Core.List.{List, [], _∷_, _++_, map}
+use mathlib.Core.List.{List, [], _++_, map}
 use Prim.Native.Nat.{ℕ, suc, _-_}
 use lib.Dec.{ltb}
 use lib.ListN.{length, take, replicate}

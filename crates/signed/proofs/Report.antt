@@ -5,7 +5,7 @@ use mathlib.Core.Logic.{_⊎_, inl, inr}
 use mathlib.Core.Path.{_≡_, refl, sym, ap, ap₂, _∙_, subst}
 use Prim.Native.Nat.{ℕ, zero, suc, _+_, _^_, _≤_, _<_}
 use native.Mathlib.Omega.{arith}
-use lib.ListN.{length, getD}
+use lib.ListN.{length}
 use lib.Seq.{take-at}
 use Rattle.theory.specs.Tasks.{Task, task-at, frame-count, shortest-deadline}
 use Rattle.theory.specs.Analysis.{lower, blocking, passes}
@@ -27,10 +27,10 @@ use Rattle.analysis.proofs.Numbering.{number-in as number-below}
 use Rattle.analysis.proofs.TimesAt.{length-times}
 use Rattle.analysis.proofs.Promises.{outcome-not-refused, holds-then-passes, missed-names, times-of-place}
 use Rattle.report_text.specs.Words.{holds-word, missed-word, refused-word, decimal, line}
-use Rattle.report_text.specs.Report.{blocker-word, first-line, time-words, task-line, task-lines, report}
+use Rattle.report_text.specs.Report.{blocker-word, first-line, time-words, task-line, task-lines}
 use Rattle.report_text.specs.Text.{text-of}
-use Rattle.signed.specs.Claims.{holds, missed, refused, said, in-numbers, WorstTime, Signed}
-use Rattle.signed.specs.Reports.{words-in, number-in, blocker-in, said-in, task-words, TimedWords, MissedWords, WordsUpTo, lines, Lines, text-in, ReportSigned}
+use Rattle.signed.specs.Claims.{missed, refused, said, in-numbers, WorstTime, Signed}
+use Rattle.signed.specs.Reports.{words-in, blocker-in, said-in, task-words, TimedWords, MissedWords, WordsUpTo, lines, Lines, text-in, ReportSigned}
 use Rattle.signed.proofs.Words.{Plain, AllPlain, words-of-line, decimal-plain, decimal-no-dash, number-read}
 use Rattle.signed.proofs.Numbers.{refusal-range}
 use Rattle.signed.proofs.Times.{worst-time, some-miss}

@@ -1,15 +1,12 @@
 -- What the entry returns and leaves, by the analysis of the sheet.
-use mathlib.Core.Bool.{Bool, true, false}
-use mathlib.Core.List.{List, [], _∷_, _++_}
+use mathlib.Core.List.{List, []}
 use mathlib.Core.Option.{Option, none, some}
-use mathlib.Core.Path.{_≡_, refl, sym, ap, _∙_}
-use Prim.Native.Nat.{ℕ, zero, suc, _+_, _*_, _≤_, _<_, zero-le}
+use mathlib.Core.Path.{_≡_, refl, ap, _∙_}
+use Prim.Native.Nat.{ℕ, _*_, _≤_, _<_}
 use native.Mathlib.Decide.{decLt}
 use native.Mathlib.Omega.{arith}
 use lib.Dec.{lit<}
-use lib.ListN.{length, getD, take, drop, List·getD-eq-default}
-use lib.Seq.{take-at}
-use Rattle.theory.specs.Tasks.{Task}
+use lib.ListN.{length, getD, List·getD-eq-default}
 use Rattle.theory.specs.Analysis.{Verdict, holds, missed, verdict}
 use Rattle.lent.specs.Lent.{laid}
 use Rattle.lent.proofs.Lent.{by-checks, by-room, turned-tells, done-tells}

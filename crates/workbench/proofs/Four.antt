@@ -18,7 +18,7 @@ use Rattle.analysis.specs.Inside.Numbered.{Numbered}
 use Rattle.analysis.specs.declared.Analysis.{Analysis}
 use Rattle.analysis.proofs.ByNumber.{Stands, stands-more, all-stand}
 use Rattle.analysis.proofs.Delivered.{number-below, numbers-apart, place-found, place-found-in, number-found-back, by-number-length}
-use Rattle.workbench.specs.Entry.{time-size, task-size, four-bytes}
+use Rattle.workbench.specs.Entry.{task-size, four-bytes}
 
 four : (l : List ℕ) → length l ≡ 4 → l ≡ getD l 0 0 ∷ getD l 1 0 ∷ getD l 2 0 ∷ getD l 3 0 ∷ []
 four (a ∷ b ∷ c ∷ d ∷ []) e = refl

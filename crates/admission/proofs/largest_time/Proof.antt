@@ -1,7 +1,5 @@
 -- `largest_time` meets its contract.
-use mathlib.Core.List.{List}
 use mathlib.Core.Path.{ap, _∙_}
-use Prim.Native.Nat.{ℕ}
 use native.Mathlib.Omega.{arith}
 use Rattle.theory.specs.Tasks.{largest}
 use Rattle.sheet.specs.Tasks.{task-in}
@@ -9,10 +7,6 @@ use Rattle.sheet.proofs.Records.{frames-used}
 use borrow.Author.Needs.{needs}
 use Rattle.admission.proofs.largest_time.Statement.{statement}
 use Rattle.admission.proofs.largest_time.Tie as tie
-use Rattle.admission.proofs.largest_time.Reads as reads
-use Rattle.admission.proofs.largest_time.Lts as lts
-use Rattle.sheet.proofs.frames_in.Reads as frames-in-reads
-use Rattle.admission.proofs.largest.Reads as largest-reads
 
 frames-in-requires : tie.Need-frames-in-requires
 frames-in-requires c κs = search needs

@@ -7,8 +7,6 @@ use lib.ListN.{length}
 use Rattle.bits.proofs.Numbers.{written, none-written, length-written, written-more, all-written}
 use Rattle.bits.proofs.hold_number.Statement.{statement}
 use Rattle.bits.proofs.hold_number.Tie as tie
-use Rattle.bits.proofs.hold_number.Reads as reads
-use Rattle.bits.proofs.hold_number.Lts as lts
 
 abbrev Inv-loop : tie.InvT-loop
 Inv-loop bytes₀ n count i₀ bytes i =

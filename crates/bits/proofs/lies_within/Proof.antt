@@ -5,8 +5,6 @@ use native.Mathlib.Omega.{arith}
 use Rattle.bits.proofs.Within.{within-narrow, within-wide, within-out, within-bytes}
 use Rattle.bits.proofs.lies_within.Statement.{statement}
 use Rattle.bits.proofs.lies_within.Tie as tie
-use Rattle.bits.proofs.lies_within.Reads as reads
-use Rattle.bits.proofs.lies_within.Lts as lts
 
 returns : tie.Need-returns
 returns c = sym (within-narrow _ _ _ (c .if1 .taken))

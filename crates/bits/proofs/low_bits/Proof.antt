@@ -5,8 +5,6 @@ use lib.Pow.{pow-pos}
 use Rattle.bits.proofs.Masks.{one-shifted, masked}
 use Rattle.bits.proofs.low_bits.Statement.{statement}
 use Rattle.bits.proofs.low_bits.Tie as tie
-use Rattle.bits.proofs.low_bits.Reads as reads
-use Rattle.bits.proofs.low_bits.Lts as lts
 
 shl-result : tie.Need-shl-result
 shl-result c = search needs

@@ -1,6 +1,6 @@
 -- `put_field` meets its contract: the field is replaced among the digits of the few bytes that it touches.
-use mathlib.Core.Path.{sym, ap, _∙_}
-use Prim.Native.Nat.{ℕ, _<_, _/_, _%_, _^_}
+use mathlib.Core.Path.{sym, _∙_}
+use Prim.Native.Nat.{_<_, _^_}
 use native.Mathlib.Omega.{arith}
 use borrow.Author.Needs.{needs}
 use denote.Ref.{now}
@@ -11,13 +11,6 @@ use Rattle.bits.proofs.Masks.{shifted-out, not-shifted-out}
 use Rattle.bits.proofs.Within.{Inside, passed, failed}
 use Rattle.bits.proofs.put_field.Statement.{statement}
 use Rattle.bits.proofs.put_field.Tie as tie
-use Rattle.bits.proofs.put_field.Reads as reads
-use Rattle.bits.proofs.put_field.Lts as lts
-use Rattle.bits.proofs.lies_within.Reads as lies-within-reads
-use Rattle.bits.proofs.number.Reads as number-reads
-use Rattle.bits.proofs.touched_by.Reads as touched-by-reads
-use Rattle.bits.proofs.hold_number.Reads as hold-number-reads
-use Rattle.bits.proofs.with_value.Reads as with-value-reads
 
 lies-within-requires : tie.Need-lies-within-requires
 lies-within-requires c κs = search needs

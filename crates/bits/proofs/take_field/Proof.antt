@@ -12,12 +12,6 @@ use Rattle.bits.proofs.Faces.{taken-outside, taken-value}
 use Rattle.bits.proofs.Within.{Inside, passed, failed}
 use Rattle.bits.proofs.take_field.Statement.{statement}
 use Rattle.bits.proofs.take_field.Tie as tie
-use Rattle.bits.proofs.take_field.Reads as reads
-use Rattle.bits.proofs.take_field.Lts as lts
-use Rattle.bits.proofs.lies_within.Reads as lies-within-reads
-use Rattle.bits.proofs.low_bits.Reads as low-bits-reads
-use Rattle.bits.proofs.number.Reads as number-reads
-use Rattle.bits.proofs.touched_by.Reads as touched-by-reads
 
 lies-within-requires : tie.Need-lies-within-requires
 lies-within-requires c κs = search needs

@@ -3,9 +3,6 @@ use borrow.Author.Needs.{needs}
 use Rattle.bits.proofs.Masks.{joined}
 use Rattle.bits.proofs.with_value.Statement.{statement}
 use Rattle.bits.proofs.with_value.Tie as tie
-use Rattle.bits.proofs.with_value.Reads as reads
-use Rattle.bits.proofs.with_value.Lts as lts
-use Rattle.bits.proofs.low_bits.Reads as low-bits-reads
 
 add-above : tie.Need-add-above
 add-above c = search needs

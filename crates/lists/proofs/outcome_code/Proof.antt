@@ -7,10 +7,6 @@ use Rattle.lists.specs.Codes.{above-refusals, outcome-code}
 use borrow.Author.Needs.{needs}
 use Rattle.lists.proofs.outcome_code.Statement.{statement}
 use Rattle.lists.proofs.outcome_code.Tie as tie
-use Rattle.lists.proofs.outcome_code.Reads as reads
-use Rattle.lists.proofs.outcome_code.Lts as lts
-use Rattle.analysis.proofs.Outcome.code.Reads as code-reads
-use Rattle.lists.proofs.refusal_code.Reads as refusal-code-reads
 
 enum-told : tie.Need-enum-told
 enum-told c = search needs

@@ -4,8 +4,6 @@ use Rattle.lists.proofs.Laws.{reading-refused, list-short, list-long}
 use borrow.Author.Needs.{needs}
 use Rattle.lists.proofs.read_answer.Statement.{statement}
 use Rattle.lists.proofs.read_answer.Tie as tie
-use Rattle.lists.proofs.read_answer.Reads as reads
-use Rattle.lists.proofs.read_answer.Lts as lts
 
 enum-known-answer : tie.Need-enum-known-answer
 enum-known-answer c = search needs

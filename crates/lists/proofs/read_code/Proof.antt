@@ -5,9 +5,6 @@ use Rattle.lists.specs.Codes.{read-code}
 use borrow.Author.Needs.{needs}
 use Rattle.lists.proofs.read_code.Statement.{statement}
 use Rattle.lists.proofs.read_code.Tie as tie
-use Rattle.lists.proofs.read_code.Reads as reads
-use Rattle.lists.proofs.read_code.Lts as lts
-use Rattle.lists.proofs.refusal_code.Reads as refusal-code-reads
 
 enum-known-read : tie.Need-enum-known-read
 enum-known-read c = search needs

@@ -4,8 +4,6 @@ use Rattle.lists.proofs.Laws.{fills-none, fills-short, fills-all}
 use borrow.Author.Needs.{needs}
 use Rattle.lists.proofs.to_fill.Statement.{statement}
 use Rattle.lists.proofs.to_fill.Tie as tie
-use Rattle.lists.proofs.to_fill.Reads as reads
-use Rattle.lists.proofs.to_fill.Lts as lts
 
 returns : tie.Need-returns
 returns c = fills-none _ _ (omega arith)

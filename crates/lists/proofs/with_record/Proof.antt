@@ -4,8 +4,6 @@ use Rattle.lists.specs.Inside.Parts.{with-record}
 use borrow.Author.Needs.{needs}
 use Rattle.lists.proofs.with_record.Statement.{statement}
 use Rattle.lists.proofs.with_record.Tie as tie
-use Rattle.lists.proofs.with_record.Reads as reads
-use Rattle.lists.proofs.with_record.Lts as lts
 
 mul-task : tie.Need-mul-task
 mul-task c = search needs

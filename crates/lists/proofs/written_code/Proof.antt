@@ -5,9 +5,6 @@ use Rattle.lists.specs.Codes.{written-code}
 use borrow.Author.Needs.{needs}
 use Rattle.lists.proofs.written_code.Statement.{statement}
 use Rattle.lists.proofs.written_code.Tie as tie
-use Rattle.lists.proofs.written_code.Reads as reads
-use Rattle.lists.proofs.written_code.Lts as lts
-use Rattle.lists.proofs.refusal_code.Reads as refusal-code-reads
 
 enum-known-written : tie.Need-enum-known-written
 enum-known-written c = search needs

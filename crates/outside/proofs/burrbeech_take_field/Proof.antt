@@ -4,10 +4,6 @@ use borrow.Author.Needs.{needs}
 use Rattle.outside.specs.Numbers.{number-seen}
 use Rattle.outside.proofs.burrbeech_take_field.Statement.{statement}
 use Rattle.outside.proofs.burrbeech_take_field.Tie as tie
-use Rattle.outside.proofs.burrbeech_take_field.Reads as reads
-use Rattle.outside.proofs.burrbeech_take_field.Lts as lts
-use Rattle.bits.proofs.take_field.Reads as take-field-reads
-use Rattle.outside.proofs.number_seen.Reads as number-seen-reads
 
 take-field-requires : tie.Need-take-field-requires
 take-field-requires c κs = search needs

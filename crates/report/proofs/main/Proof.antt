@@ -5,11 +5,6 @@ use lib.Seq.{length-take-le}
 use Rattle.report_text.proofs.Whole.{text-within}
 use Rattle.report.proofs.main.Statement.{statement}
 use Rattle.report.proofs.main.Tie as tie
-use Rattle.report.proofs.main.Reads as reads
-use Rattle.report.proofs.main.Lts as lts
-use Rattle.io.proofs.read_full.Reads as read-full-reads
-use Rattle.io.proofs.write_all.Reads as write-all-reads
-use Rattle.report_text.proofs.report_text.Reads as report-text-reads
 
 slice-aggregate-read-full : tie.Need-slice-aggregate-read-full
 slice-aggregate-read-full c = search needs

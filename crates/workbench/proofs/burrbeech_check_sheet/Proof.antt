@@ -1,6 +1,6 @@
 -- `burrbeech_check_sheet` meets its contract.
-use mathlib.Core.Path.{sym, ap, _∙_}
-use Prim.Native.Nat.{_≤_, _*_}
+use mathlib.Core.Path.{ap, _∙_}
+use Prim.Native.Nat.{_≤_}
 use native.Mathlib.Omega.{arith}
 use denote.Ref.{now}
 use Rattle.analysis.specs.Answers.{code}
@@ -13,12 +13,6 @@ use Rattle.workbench.proofs.Answers.{done, short, small}
 use borrow.Author.Needs.{needs}
 use Rattle.workbench.proofs.burrbeech_check_sheet.Statement.{statement}
 use Rattle.workbench.proofs.burrbeech_check_sheet.Tie as tie
-use Rattle.workbench.proofs.burrbeech_check_sheet.Reads as reads
-use Rattle.workbench.proofs.burrbeech_check_sheet.Lts as lts
-use Rattle.analysis.proofs.Outcome.code.Reads as code-reads
-use Rattle.analysis.proofs.analysis_of_sheet.Reads as analysis-of-sheet-reads
-use Rattle.sheet.proofs.Refusal.number.Reads as number-reads
-use Rattle.workbench.proofs.put_times.Reads as put-times-reads
 
 analysis-of-sheet-requires : tie.Need-analysis-of-sheet-requires
 analysis-of-sheet-requires c κs = search needs

@@ -5,8 +5,6 @@ use Rattle.workbench.proofs.Four.{put-four}
 use borrow.Author.Needs.{needs}
 use Rattle.workbench.proofs.put_four.Statement.{statement}
 use Rattle.workbench.proofs.put_four.Tie as tie
-use Rattle.workbench.proofs.put_four.Reads as reads
-use Rattle.workbench.proofs.put_four.Lts as lts
 
 cast-bytes : tie.Need-cast-bytes
 cast-bytes c = search needs

@@ -1,12 +1,10 @@
 -- `put_times` meets its contract: after p places the times of these stand at their numbers.
 use mathlib.Core.Path.{_≡_, refl}
-use Prim.Native.Nat.{ℕ, _≤_, _<_, _-_, _*_}
+use Prim.Native.Nat.{_≤_, _-_}
 use native.Mathlib.Omega.{arith}
 use denote.Ref.{now}
-use lib.ListN.{length}
 use Rattle.analysis.proofs.ByNumber.{none-stands}
 use Rattle.analysis.proofs.Delivered.{number-below}
-use Rattle.workbench.specs.Entry.{task-size}
 use Rattle.workbench.proofs.Four.{AtNumbers, numbers-more, all-numbers}
 use borrow.Author.Needs.{needs}
 use Rattle.workbench.proofs.put_times.Statement.{statement}

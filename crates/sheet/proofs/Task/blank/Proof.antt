@@ -1,11 +1,8 @@
 -- `Task::blank` meets its contract.
 use mathlib.Core.Path.{refl}
 use Rattle.sheet.specs.Tasks.{blank-record}
-use borrow.Author.Needs.{needs}
 use Rattle.sheet.proofs.Task.blank.Statement.{statement}
 use Rattle.sheet.proofs.Task.blank.Tie as tie
-use Rattle.sheet.proofs.Task.blank.Reads as reads
-use Rattle.sheet.proofs.Task.blank.Lts as lts
 
 returns : tie.Need-returns
 unfolding blank-record

@@ -1,12 +1,8 @@
 -- `TaskSet::blank` meets its contract.
-use mathlib.Core.Path.{refl}
-use Rattle.sheet.specs.Tasks.{blank-record, blank-set, set-with}
+use Rattle.sheet.specs.Tasks.{blank-set, set-with}
 use borrow.Author.Needs.{needs}
 use Rattle.sheet.proofs.TaskSet.blank.Statement.{statement}
 use Rattle.sheet.proofs.TaskSet.blank.Tie as tie
-use Rattle.sheet.proofs.TaskSet.blank.Reads as reads
-use Rattle.sheet.proofs.TaskSet.blank.Lts as lts
-use Rattle.sheet.proofs.Task.blank.Reads as blank-reads
 
 blank-requires : tie.Need-blank-requires
 blank-requires c κs = search needs
