@@ -21,7 +21,8 @@ use Rattle.records.proofs.Looking.{row-found, row-missing, row-numbers}
 use Rattle.records.proofs.Parts.{laid-whole, take-replicate, drop-replicate}
 use Rattle.records.proofs.Packing.{length-unpacked, total-replicate}
 use Rattle.sheet.specs.Constants.{the-version, time-width, most-tasks, most-frames, greatest-size}
-use Rattle.sheet.specs.Fields.{header-widths, fixed-widths, frame-widths}
+use Rattle.sheet.specs.Fields.{header-widths, version-field, policy-field, task-count-field, spare-field}
+use Rattle.sheet.specs.Fields.{fixed-widths, period-field, deadline-field, lock-field, frame-count-field, frame-widths}
 use Rattle.sheet.specs.Tasks.{record-of}
 use Rattle.sheet.specs.Layout.{header-in, behind-header, frame-count-in, record-width, task-at-start}
 use Rattle.sheet.specs.Admission.{decided, known-policy, miscounted, policy-check, task-count-check, frame-count-check}
@@ -117,21 +118,21 @@ module _ (s : List ℕ) (small : length s ≤ greatest-size) (i at : ℕ) (ws : 
         ∙ row-numbers s at fixed-widths four fixed-lawful (near s small) (lit≤ tt) some-fixed (fixed-there .0)
         ∙ laid-whole (unpacked fixed-widths (drop at (bits-of s))) four (sym (length-unpacked fixed-widths (drop at (bits-of s))))
 
-    count-is : getD numbers 3 0 ≡ frame-count-in (drop at (bits-of s))
+    count-is : getD numbers frame-count-field 0 ≡ frame-count-in (drop at (bits-of s))
     unfolding frame-count-in
-    count-is = ap (λ (ns : List ℕ). getD ns 3 0) numbers-are
+    count-is = ap (λ (ns : List ℕ). getD ns frame-count-field 0) numbers-are
 
-    pub frame-count-wrong : miscounted (getD numbers 3 0) most-frames ≡ true → nothing-found (FrameCount i) ≡ found-at i at (drop at (bits-of s))
+    pub frame-count-wrong : miscounted (getD numbers frame-count-field 0) most-frames ≡ true → nothing-found (FrameCount i) ≡ found-at i at (drop at (bits-of s))
     frame-count-wrong f = count-wrong i at (drop at (bits-of s)) (fixed-there .0) (ap (λ (n : ℕ). miscounted n most-frames) (sym count-is) ∙ f)
 
-    module _ (f : miscounted (getD numbers 3 0) most-frames ≡ false) where
-      counted : (1 ≤ getD numbers 3 0) × (getD numbers 3 0 ≤ most-frames)
-      counted = count-passed (getD numbers 3 0) most-frames f
+    module _ (f : miscounted (getD numbers frame-count-field 0) most-frames ≡ false) where
+      counted : (1 ≤ getD numbers frame-count-field 0) × (getD numbers frame-count-field 0 ≤ most-frames)
+      counted = count-passed (getD numbers frame-count-field 0) most-frames f
 
       in-bits : miscounted (frame-count-in (drop at (bits-of s))) most-frames ≡ false
       in-bits = ap (λ (n : ℕ). miscounted n most-frames) (sym count-is) ∙ f
 
-      module _ (t : Times) (et : t ≡ frame-times-at s behind (getD numbers 3 0)) where
+      module _ (t : Times) (et : t ≡ frame-times-at s behind (getD numbers frame-count-field 0)) where
         n : ℕ
         n = frame-count-in (drop at (bits-of s))
 
@@ -201,12 +202,12 @@ module _ (s : List ℕ) (small : length s ≤ greatest-size) (i at : ℕ) (ws : 
               (record {
                 answer = Admitted;
                 next = next;
-                task = record { period = getD numbers 0 0; deadline = getD numbers 1 0; lock = getD numbers 2 0; «frame_count» = getD numbers 3 0; frames = t .times };
+                task = record { period = getD numbers period-field 0; deadline = getD numbers deadline-field 0; lock = getD numbers lock-field 0; «frame_count» = getD numbers frame-count-field 0; frames = t .times };
               })
               (found-at i at (drop at (bits-of s)))
           unfolding found-by record-of task-at-start frames n
           record-there =
-              let count : getD numbers 3 0 ≡ length frames = count-is ∙ sym frames-count in
+              let count : getD numbers frame-count-field 0 ≡ length frames = count-is ∙ sym frames-count in
               (λ k. record {
                 answer = Admitted;
                 next = next-is k;
@@ -264,59 +265,59 @@ module _ (s : List ℕ) (small : length s ≤ greatest-size) (long : total heade
         ∙ row-numbers s 0 header-widths four header-lawful (near s small) (lit≤ tt) some-header (header-there .0)
         ∙ laid-whole (unpacked header-widths (bits-of s)) four (sym (length-unpacked header-widths (bits-of s)))
 
-    version-is : getD numbers 0 0 ≡ header-in (bits-of s) .version
+    version-is : getD numbers version-field 0 ≡ header-in (bits-of s) .version
     unfolding header-in
-    version-is = ap (λ (ns : List ℕ). getD ns 0 0) numbers-are-header
+    version-is = ap (λ (ns : List ℕ). getD ns version-field 0) numbers-are-header
 
-    policy-is : getD numbers 1 0 ≡ header-in (bits-of s) .policy
+    policy-is : getD numbers policy-field 0 ≡ header-in (bits-of s) .policy
     unfolding header-in
-    policy-is = ap (λ (ns : List ℕ). getD ns 1 0) numbers-are-header
+    policy-is = ap (λ (ns : List ℕ). getD ns policy-field 0) numbers-are-header
 
-    task-count-is : getD numbers 2 0 ≡ header-in (bits-of s) .task-count
+    task-count-is : getD numbers task-count-field 0 ≡ header-in (bits-of s) .task-count
     unfolding header-in
-    task-count-is = ap (λ (ns : List ℕ). getD ns 2 0) numbers-are-header
+    task-count-is = ap (λ (ns : List ℕ). getD ns task-count-field 0) numbers-are-header
 
-    spare-is : getD numbers 3 0 ≡ header-in (bits-of s) .spare
+    spare-is : getD numbers spare-field 0 ≡ header-in (bits-of s) .spare
     unfolding header-in
-    spare-is = ap (λ (ns : List ℕ). getD ns 3 0) numbers-are-header
+    spare-is = ap (λ (ns : List ℕ). getD ns spare-field 0) numbers-are-header
 
-    pub version-wrong : (getD numbers 0 0 ≡ the-version → ⊥) → turned-away Version ≡ body-reading (bits-of s)
+    pub version-wrong : (getD numbers version-field 0 ≡ the-version → ⊥) → turned-away Version ≡ body-reading (bits-of s)
     unfolding body-checks
     version-wrong f = body-refused (bits-of s) Version (applies _ Version _ (ap not (ne-eqb _ the-version (λ e. f (version-is ∙ e)))))
 
-    module _ (v : getD numbers 0 0 ≡ the-version) where
+    module _ (v : getD numbers version-field 0 ≡ the-version) where
       to-policy : decided (body-checks (bits-of s)) ≡ decided (from-policy (bits-of s))
       unfolding body-checks from-policy from-spare from-task-count from-records
       to-policy = passed-over _ Version _ (ap not (eq-eqb _ the-version (sym version-is ∙ v)))
 
-      pub policy-wrong : known-policy (getD numbers 1 0) ≡ false → turned-away Policy ≡ body-reading (bits-of s)
+      pub policy-wrong : known-policy (getD numbers policy-field 0) ≡ false → turned-away Policy ≡ body-reading (bits-of s)
       unfolding from-policy policy-check
       policy-wrong e = body-refused (bits-of s) Policy (to-policy ∙ applies _ Policy _ (ap (λ (p : ℕ). not (known-policy p)) (sym policy-is) ∙ ap not e))
 
-      module _ (p : known-policy (getD numbers 1 0) ≡ true) where
+      module _ (p : known-policy (getD numbers policy-field 0) ≡ true) where
         to-spare : decided (body-checks (bits-of s)) ≡ decided (from-spare (bits-of s))
         unfolding from-policy policy-check
         to-spare = to-policy ∙ passed-over _ Policy _ (ap (λ (p : ℕ). not (known-policy p)) (sym policy-is) ∙ ap not p)
 
-        pub spare-set : (getD numbers 3 0 ≡ 0 → ⊥) → turned-away BitSet ≡ body-reading (bits-of s)
+        pub spare-set : (getD numbers spare-field 0 ≡ 0 → ⊥) → turned-away BitSet ≡ body-reading (bits-of s)
         unfolding from-spare
         spare-set f = body-refused (bits-of s) BitSet (to-spare ∙ applies _ BitSet _ (ap not (ne-eqb _ 0 (λ e. f (spare-is ∙ e)))))
 
-        module _ (z : getD numbers 3 0 ≡ 0) where
+        module _ (z : getD numbers spare-field 0 ≡ 0) where
           to-task-count : decided (body-checks (bits-of s)) ≡ decided (from-task-count (bits-of s))
           unfolding from-spare
           to-task-count = to-spare ∙ passed-over _ BitSet _ (ap not (eq-eqb _ 0 (sym spare-is ∙ z)))
 
-          pub task-count-wrong : miscounted (getD numbers 2 0) most-tasks ≡ true → turned-away TaskCount ≡ body-reading (bits-of s)
+          pub task-count-wrong : miscounted (getD numbers task-count-field 0) most-tasks ≡ true → turned-away TaskCount ≡ body-reading (bits-of s)
           unfolding from-task-count task-count-check
           task-count-wrong f =
               body-refused (bits-of s) TaskCount (to-task-count ∙ applies _ TaskCount _ (ap (λ (n : ℕ). miscounted n most-tasks) (sym task-count-is) ∙ f))
 
-          pub header-right : miscounted (getD numbers 2 0) most-tasks ≡ false
-              → records-reading (getD numbers 1 0) (getD numbers 2 0) (drop start (bits-of s)) ≡ body-reading (bits-of s)
+          pub header-right : miscounted (getD numbers task-count-field 0) most-tasks ≡ false
+              → records-reading (getD numbers policy-field 0) (getD numbers task-count-field 0) (drop start (bits-of s)) ≡ body-reading (bits-of s)
           unfolding from-task-count from-records task-count-check records-reading body-reading set-in behind-header
           header-right f =
-              ap (λ (k : ℕ). records-reading (getD numbers 1 0) (getD numbers 2 0) (drop k (bits-of s))) (header-there .1)
+              ap (λ (k : ℕ). records-reading (getD numbers policy-field 0) (getD numbers task-count-field 0) (drop k (bits-of s))) (header-there .1)
               ∙ ap₂ (λ (p n : ℕ). records-reading p n (behind-header (bits-of s))) policy-is task-count-is
               ∙ ap (λ (a : Answer). reading-of a (set-in (bits-of s)))
               (sym (to-task-count ∙ passed-over _ TaskCount _ (ap (λ (n : ℕ). miscounted n most-tasks) (sym task-count-is) ∙ f)))

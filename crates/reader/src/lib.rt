@@ -74,7 +74,7 @@ fn read_record(body: &[u8], at: usize, i: u32) -> Found
     let Row::EndsAt(behind) = records::take_row(body, at, &widths, &mut fixed) else {
         return not_found(Refusal::Records);
     };
-    let count = fixed[3];
+    let count = fixed[Sheet::FRAME_COUNT_FIELD];
     if sheet::miscounted(count, Sheet::MOST_FRAMES) {
         return not_found(Refusal::FrameCount(i));
     }
@@ -88,9 +88,9 @@ fn read_record(body: &[u8], at: usize, i: u32) -> Found
         answer: Answer::Admitted,
         next,
         task: Task {
-            period: fixed[0],
-            deadline: fixed[1],
-            lock: fixed[2],
+            period: fixed[Sheet::PERIOD_FIELD],
+            deadline: fixed[Sheet::DEADLINE_FIELD],
+            lock: fixed[Sheet::LOCK_FIELD],
             frame_count: count,
             frames: times,
         },
@@ -150,17 +150,17 @@ fn read_body(body: &[u8]) -> Reading
     let Row::EndsAt(start) = records::take_row(body, 0, &widths, &mut header) else {
         return refused(Refusal::Records);
     };
-    if header[0] != Sheet::VERSION {
+    if header[Sheet::VERSION_FIELD] != Sheet::VERSION {
         return refused(Refusal::Version);
     }
-    let policy = header[1];
+    let policy = header[Sheet::POLICY_FIELD];
     if !sheet::known_policy(policy) {
         return refused(Refusal::Policy);
     }
-    if header[3] != 0 {
+    if header[Sheet::SPARE_FIELD] != 0 {
         return refused(Refusal::BitSet);
     }
-    let count = header[2];
+    let count = header[Sheet::TASK_COUNT_FIELD];
     if sheet::miscounted(count, Sheet::MOST_TASKS) {
         return refused(Refusal::TaskCount);
     }

@@ -11,7 +11,8 @@ use lib.Seq.{drop-at, take-add}
 use Rattle.theory.specs.Tasks.{Task}
 use Rattle.sheet.specs.Constants.{the-version, most-frames, policy-width, task-count-width, frame-count-width, time-width}
 use Rattle.records.specs.Rows.{packed, unpacked, total}
-use Rattle.sheet.specs.Fields.{header-widths, fixed-widths, frame-widths}
+use Rattle.sheet.specs.Fields.{header-widths, version-field, policy-field, task-count-field, spare-field}
+use Rattle.sheet.specs.Fields.{fixed-widths, period-field, deadline-field, lock-field, frame-count-field, frame-widths}
 use Rattle.sheet.specs.Layout.{Header, header-in, behind-header, frame-count-in, record-width, task-at-start, tasks-in}
 use Rattle.sheet.specs.Admission.{decided, frame-count-check}
 use Rattle.sheet.specs.Reading.{layout-checks}
@@ -34,7 +35,7 @@ pub header-written : (p n : ℕ) (rest : List Bool) → p < 2 ^ policy-width →
     → header-in (header-bits p n ++ rest) ≡ record { version = the-version; policy = p; task-count = n; spare = 0 }
 unfolding header-in
 header-written p n rest hp hn =
-    ap (λ (f : List ℕ). let h : Header = record { version = getD f 0 0; policy = getD f 1 0; task-count = getD f 2 0; spare = getD f 3 0 } in h)
+    ap (λ (f : List ℕ). let h : Header = record { version = getD f version-field 0; policy = getD f policy-field 0; task-count = getD f task-count-field 0; spare = getD f spare-field 0 } in h)
     (header-unpacked p n rest hp hn)
 
 pub length-header : (p n : ℕ) → length (header-bits p n) ≡ total header-widths
@@ -84,7 +85,7 @@ module _ (t : Task) (rest : List Bool) (h : InFields t) where
 
   pub frame-count-written : frame-count-in (task-bits t ++ rest) ≡ length (t .frames)
   unfolding frame-count-in fixed-of
-  frame-count-written = ap (λ (f : List ℕ). getD f 3 0) fixed-written
+  frame-count-written = ap (λ (f : List ℕ). getD f frame-count-field 0) fixed-written
 
   pub width-written : record-width (task-bits t ++ rest) ≡ length (task-bits t)
   unfolding record-width
@@ -104,7 +105,7 @@ module _ (t : Task) (rest : List Bool) (h : InFields t) where
   pub task-written : task-at-start (task-bits t ++ rest) ≡ t
   unfolding task-at-start fixed-of
   task-written =
-      ap₂ (λ (f fs : List ℕ). let u : Task = record { period = getD f 0 0; deadline = getD f 1 0; lock = getD f 2 0; frames = fs } in u)
+      ap₂ (λ (f fs : List ℕ). let u : Task = record { period = getD f period-field 0; deadline = getD f deadline-field 0; lock = getD f lock-field 0; frames = fs } in u)
       fixed-written frames-written
 
   pub next-written : drop (record-width (task-bits t ++ rest)) (task-bits t ++ rest) ≡ rest

@@ -5,7 +5,8 @@ use Prim.Native.Nat.{ℕ, zero, suc, _+_}
 use lib.ListN.{getD, drop}
 use Rattle.theory.specs.Tasks.{Task}
 use Rattle.records.specs.Rows.{unpacked, total}
-use Rattle.sheet.specs.Fields.{header-widths, fixed-widths, frame-widths}
+use Rattle.sheet.specs.Fields.{header-widths, version-field, policy-field, task-count-field, spare-field}
+use Rattle.sheet.specs.Fields.{fixed-widths, period-field, deadline-field, lock-field, frame-count-field, frame-widths}
 
 -- the numbers of the header
 pub record Header : Type 0 where
@@ -18,7 +19,7 @@ pub record Header : Type 0 where
 unfoldable pub header-in : List Bool → Header
 header-in bits =
     let f = unpacked header-widths bits in
-    record { version = getD f 0 0; policy = getD f 1 0; task-count = getD f 2 0; spare = getD f 3 0 }
+    record { version = getD f version-field 0; policy = getD f policy-field 0; task-count = getD f task-count-field 0; spare = getD f spare-field 0 }
 
 -- the bits behind the header
 unfoldable pub behind-header : List Bool → List Bool
@@ -26,7 +27,7 @@ behind-header bits = drop (total header-widths) bits
 
 -- the frame count of the task record at the start of the bits
 unfoldable pub frame-count-in : List Bool → ℕ
-frame-count-in bits = getD (unpacked fixed-widths bits) 3 0
+frame-count-in bits = getD (unpacked fixed-widths bits) frame-count-field 0
 
 -- how many bits that record takes
 unfoldable pub record-width : List Bool → ℕ
@@ -37,9 +38,9 @@ unfoldable pub task-at-start : List Bool → Task
 task-at-start bits =
     let f = unpacked fixed-widths bits in
     record {
-      period = getD f 0 0;
-      deadline = getD f 1 0;
-      lock = getD f 2 0;
+      period = getD f period-field 0;
+      deadline = getD f deadline-field 0;
+      lock = getD f lock-field 0;
       frames = unpacked (frame-widths (frame-count-in bits)) (drop (total fixed-widths) bits);
     }
 

@@ -85,6 +85,24 @@ impl Sheet {
 
     pub const FIXED_FIELDS: usize = 4;
 
+    // Where each field stands in the header.
+    pub const VERSION_FIELD: usize = 0;
+
+    pub const POLICY_FIELD: usize = 1;
+
+    pub const TASK_COUNT_FIELD: usize = 2;
+
+    pub const SPARE_FIELD: usize = 3;
+
+    // And in the fixed part of a task.
+    pub const PERIOD_FIELD: usize = 0;
+
+    pub const DEADLINE_FIELD: usize = 1;
+
+    pub const LOCK_FIELD: usize = 2;
+
+    pub const FRAME_COUNT_FIELD: usize = 3;
+
     pub const GREATEST_TIME: u32 = 1_048_575;
 
     pub const LEAST_SIZE: usize = 15;
