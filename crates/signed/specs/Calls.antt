@@ -1,4 +1,5 @@
 -- Calls of the public entries that keep their contracts: what is answered, and what the lent memory holds before and after.
+-- Each record says what the contract of its entry says, and no more.
 use mathlib.Core.List.{List}
 use mathlib.Core.Path.{_≡_}
 use Prim.Native.Nat.{ℕ}
