@@ -18,13 +18,17 @@ use sheet::Task;
 use sheet::TaskSet;
 use sheet::Written;
 
-// A set for a list of n records, with none of them in it yet; the count is 17 for all lists that are too long.
+// The count of every list that is too long.
+const TOO_MANY: usize = Sheet::TASK_ROOM + 1;
+
+// A set for a list of n records, with none of them in it yet.
 fn opened(policy: u32, n: usize) -> TaskSet
     ensures { λ r. ⌜ r ≡ opened-of policy n ⌝ }
 {
+    let count = sheet::in_use(n, TOO_MANY) as u32;
     TaskSet {
         policy: policy,
-        task_count: sheet::in_use(n, Sheet::TASK_ROOM + 1) as u32,
+        task_count: count,
         tasks: [Task::blank(); Sheet::TASK_ROOM],
     }
 }

@@ -4,14 +4,11 @@ use borrow.Author.Needs.{needs}
 use Rattle.lists.proofs.opened.Statement.{statement}
 use Rattle.lists.proofs.opened.Tie as tie
 
-add-in-use : tie.Need-add-in-use
-add-in-use c = search needs
-
 in-use-requires : tie.Need-in-use-requires
 in-use-requires c κs = search needs
 
-cast-t5 : tie.Need-cast-t5
-cast-t5 c = search needs
+cast-count : tie.Need-cast-count
+cast-count c = search needs
 
 blank-requires : tie.Need-blank-requires
 blank-requires c κs = search needs
@@ -21,4 +18,4 @@ unfolding opened-of
 returns c = rw (c .blank .ensures, c .before .in-use .ensures)
 
 pub opened-spec : {M : Type 1} → statement M
-opened-spec = tie.close (tie.spec add-in-use in-use-requires cast-t5 blank-requires returns)
+opened-spec = tie.close (tie.spec in-use-requires cast-count blank-requires returns)
