@@ -2,7 +2,7 @@
 ghost use mathlib.Core.Bool.{_&&_};
 ghost use mathlib.Core.List.{map};
 ghost use mathlib.Core.Path.{_≡_};
-ghost use Prim.Native.Nat.{_≤_, _<_};
+ghost use Prim.Native.Nat.{_≤_, _<_, _^_};
 ghost use lib.ListN.{length, take};
 ghost use Rattle.theory.specs.Tasks.{largest, qualifies};
 ghost use Rattle.sheet.specs.Constants.{most-frames};
@@ -55,6 +55,13 @@ enum TaskAnswer {
     TurnedAway(Refusal),
 }
 
+// Sums of times are held in 64 bits.
+fn wide(x: u32) -> u64
+    ensures { λ r. ⌜ (r ≡ x) × (r < 2 ^ 32) ⌝ }
+{
+    x as u64
+}
+
 // Whether the sum from frame s is at least that from frame k, going round, for each length up to the number of frames.
 fn at_least(frames: &[u32; Sheet::FRAME_ROOM], count: usize, s: usize, k: usize) -> bool
     requires { ⌜ (length (now frames) ≡ most-frames) × (count ≤ most-frames) × (s < count) × (k < count) ⌝ }
@@ -66,8 +73,8 @@ fn at_least(frames: &[u32; Sheet::FRAME_ROOM], count: usize, s: usize, k: usize)
     let mut j = k;
     let mut n: usize = 0;
     while n < count {
-        sum_s += sheet::wide(frames[i]);
-        sum_k += sheet::wide(frames[j]);
+        sum_s += wide(frames[i]);
+        sum_k += wide(frames[j]);
         if sum_s < sum_k {
             return false;
         }
@@ -96,7 +103,7 @@ pub fn start_frame(task: Task) -> Start
     ensures { λ r. ⌜ r ≡ start-of (task-in task) ⌝ }
 {
     let frames = task.frames;
-    let count = sheet::frames_in(task.frame_count, frames);
+    let count = sheet::in_use(task.frame_count as usize, Sheet::FRAME_ROOM);
     for s in 0..count {
         if qualifies(&frames, count, s) {
             return Start::At(s as u32);
@@ -160,7 +167,7 @@ fn well_formed(task: Task) -> bool
         return false;
     }
     let frames = task.frames;
-    let count = sheet::frames_in(task.frame_count, frames);
+    let count = sheet::in_use(task.frame_count as usize, Sheet::FRAME_ROOM);
     frames_between(&frames, count, 1, deadline)
 }
 
@@ -169,7 +176,7 @@ fn largest_time(task: Task) -> u32
     ensures { λ r. ⌜ r ≡ largest (task-in task .frames) ⌝ }
 {
     let frames = task.frames;
-    let count = sheet::frames_in(task.frame_count, frames);
+    let count = sheet::in_use(task.frame_count as usize, Sheet::FRAME_ROOM);
     largest(&frames, count)
 }
 
@@ -208,7 +215,7 @@ pub fn judge_tasks(set: TaskSet) -> Judged
     ensures { λ r. ⌜ r ≡ judged (decided (task-checks 0 (map task-in (records-of set)))) set ⌝ }
 {
     let tasks = set.tasks;
-    let count = sheet::tasks_in(set.task_count, tasks);
+    let count = sheet::in_use(set.task_count as usize, Sheet::TASK_ROOM);
     let mut shapes = [Shape::blank(); Sheet::TASK_ROOM];
     for i in 0..count {
         let task = tasks[i];
@@ -233,7 +240,7 @@ fn frame_counts(set: TaskSet) -> Answer
     ensures { λ r. ⌜ r ≡ decided (frame-count-checks 0 (records-of set)) ⌝ }
 {
     let tasks = set.tasks;
-    let count = sheet::tasks_in(set.task_count, tasks);
+    let count = sheet::in_use(set.task_count as usize, Sheet::TASK_ROOM);
     for i in 0..count {
         let task = tasks[i];
         let n = task.frame_count;

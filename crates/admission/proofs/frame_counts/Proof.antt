@@ -4,10 +4,11 @@ use mathlib.Core.Path.{_≡_, refl, sym, ap, _∙_}
 use Prim.Native.Nat.{_≤_, _-_}
 use native.Mathlib.Omega.{arith}
 use lib.ListN.{length}
+use Rattle.sheet.specs.Constants.{most-tasks}
 use Rattle.sheet.specs.Tasks.{records-of}
 use Rattle.sheet.specs.Admission.{decided, frame-count-checks}
 use Rattle.sheet.specs.declared.Task.{Task as Record}
-use Rattle.sheet.proofs.Records.{records-used}
+use Rattle.sheet.proofs.Records.{mapped-length, records-used}
 use Rattle.admission.proofs.Answers.{counts-left, counts-all, counts-refuse, counts-pass, counts-end}
 use borrow.Author.Needs.{needs}
 use Rattle.admission.proofs.frame_counts.Statement.{statement}
@@ -19,15 +20,22 @@ Inv-loop tasks count i₀ i = (i ≤ count) × (counts-left tasks count i ≡ co
 abbrev μ-loop : tie.MeasureT-loop
 μ-loop tasks count i₀ i = count - i
 
+-- the array of a set's records has its sixteen places
+long : (c : tie.Start Inv-loop μ-loop) → length (c .args .set .tasks) ≡ most-tasks
+long c = search (needs, mapped-length)
+
 -- the records in use are there, and are those of the set
-there : (c : tie.After-tasks-in Inv-loop μ-loop) → c .tasks-in .result ≤ length (c .before .before .args .set .tasks)
-there c = omega arith
+there : (c : tie.After-in-use Inv-loop μ-loop) → c .in-use .result ≤ length (c .before .before .before .args .set .tasks)
+there c = omega (arith, long (c .before .before .before))
 
-whole : (c : tie.After-tasks-in Inv-loop μ-loop) → let s = c .before .before .args .set in counts-left (s .tasks) (c .tasks-in .result) 0 ≡ decided (frame-count-checks 0 (records-of s))
-whole c = counts-all _ _ ∙ ap (λ (rs : List Record). decided (frame-count-checks 0 rs)) (records-used (c .before .before .args .set) _ (c .tasks-in .ensures))
+whole : (c : tie.After-in-use Inv-loop μ-loop) → let s = c .before .before .before .args .set in counts-left (s .tasks) (c .in-use .result) 0 ≡ decided (frame-count-checks 0 (records-of s))
+whole c = counts-all _ _ ∙ ap (λ (rs : List Record). decided (frame-count-checks 0 rs)) (records-used (c .before .before .before .args .set) _ (c .in-use .ensures, long (c .before .before .before)))
 
-tasks-in-requires : tie.Need-tasks-in-requires Inv-loop μ-loop
-tasks-in-requires c κs = search needs
+cast-in-use : tie.Need-cast-in-use Inv-loop μ-loop
+cast-in-use c = search needs
+
+in-use-requires : tie.Need-in-use-requires Inv-loop μ-loop
+in-use-requires c κs = search needs
 
 loop-holds : tie.Need-loop-holds Inv-loop μ-loop
 loop-holds c = (search needs, refl)
@@ -73,7 +81,8 @@ frame-counts-spec =
     (tie.spec
     Inv-loop
     μ-loop
-    tasks-in-requires
+    cast-in-use
+    in-use-requires
     loop-holds
     mul-task
     array-copy-out-task

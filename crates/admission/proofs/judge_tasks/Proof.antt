@@ -8,7 +8,7 @@ use Rattle.sheet.specs.Constants.{most-tasks}
 use Rattle.sheet.specs.Tasks.{task-in, records-of}
 use Rattle.sheet.specs.Admission.{decided, task-checks}
 use Rattle.sheet.specs.declared.Task.{Task as Record}
-use Rattle.sheet.proofs.Records.{records-used}
+use Rattle.sheet.proofs.Records.{mapped-length, records-used}
 use Rattle.admission.specs.Judged.{shapes-of}
 use Rattle.admission.proofs.Answers.{tasks-left, tasks-all, tasks-pass, tasks-refuse, tasks-end, judged-refused, judged-admitted}
 use Rattle.admission.proofs.Shapes.{shapes-up-to, shapes-none, shapes-more, shapes-all}
@@ -23,18 +23,25 @@ Inv-loop set tasks count shapes₀ i₀ shapes i =
 abbrev μ-loop : tie.MeasureT-loop
 μ-loop set tasks count shapes₀ i₀ shapes i = count - i
 
+-- the array of a set's records has its sixteen slots
+long : (c : tie.Start Inv-loop μ-loop) → length (c .args .set .tasks) ≡ most-tasks
+long c = search (needs, mapped-length)
+
 -- the records in use are there, and are those of the set
-there : (c : tie.After-tasks-in Inv-loop μ-loop) → c .tasks-in .result ≤ length (c .before .before .args .set .tasks)
-there c = omega arith
+there : (c : tie.After-in-use Inv-loop μ-loop) → c .in-use .result ≤ length (c .before .before .before .args .set .tasks)
+there c = omega (arith, long (c .before .before .before))
 
-used : (c : tie.After-tasks-in Inv-loop μ-loop) → let s = c .before .before .args .set in take (c .tasks-in .result) (s .tasks) ≡ records-of s
-used c = records-used (c .before .before .args .set) _ (c .tasks-in .ensures)
+used : (c : tie.After-in-use Inv-loop μ-loop) → let s = c .before .before .before .args .set in take (c .in-use .result) (s .tasks) ≡ records-of s
+used c = records-used (c .before .before .before .args .set) _ (c .in-use .ensures, long (c .before .before .before))
 
-whole : (c : tie.After-tasks-in Inv-loop μ-loop) → let s = c .before .before .args .set in tasks-left (s .tasks) (c .tasks-in .result) 0 ≡ decided (task-checks 0 (map task-in (records-of s)))
+whole : (c : tie.After-in-use Inv-loop μ-loop) → let s = c .before .before .before .args .set in tasks-left (s .tasks) (c .in-use .result) 0 ≡ decided (task-checks 0 (map task-in (records-of s)))
 whole c = tasks-all _ _ ∙ ap (λ (rs : List Record). decided (task-checks 0 (map task-in rs))) (used c)
 
-tasks-in-requires : tie.Need-tasks-in-requires Inv-loop μ-loop
-tasks-in-requires c κs = search needs
+cast-in-use : tie.Need-cast-in-use Inv-loop μ-loop
+cast-in-use c = search needs
+
+in-use-requires : tie.Need-in-use-requires Inv-loop μ-loop
+in-use-requires c κs = search needs
 
 blank-requires : tie.Need-blank-requires Inv-loop μ-loop
 blank-requires c κs = search needs
@@ -90,14 +97,14 @@ loop-again c =
     let at = c .before .before .before .before .before .before in
     let start = at .before .before in
     let taken = c .before .before .before .before .before .loop-test .taken in
-    let few : start .tasks-in .result ≤ most-tasks = omega arith in
+    let few : start .in-use .result ≤ most-tasks = omega arith in
     let pass = tasks-pass _ _ (there start) _ _ taken _ (c .before .before .before .task-answer .ensures) _ (c .before .shape .given .1) in
     (search needs, pass .0 ∙ at .loop .inv .1, shapes-more _ _ (there start) _ _ _ _ taken few (at .loop .inv .2) (pass .1))
 
 returns-2 : tie.Need-returns-2 Inv-loop μ-loop
 returns-2 c =
     let start = c .before .before .before in
-    let done : start .tasks-in .result ≡ c .before .loop .i = omega arith in
+    let done : start .in-use .result ≡ c .before .loop .i = omega arith in
     judged-admitted _ _ _
     (sym (whole start) ∙ sym (c .before .loop .inv .1) ∙ tasks-end _ _ (there start) _ (c .loop-test .left))
     (c .before .loop .inv .2 ∙ shapes-all _ _ (there start) _ done ∙ ap (λ (rs : List Record). shapes-of (map task-in rs)) (used start))
@@ -108,7 +115,8 @@ judge-tasks-spec =
     (tie.spec
     Inv-loop
     μ-loop
-    tasks-in-requires
+    cast-in-use
+    in-use-requires
     blank-requires
     loop-holds
     mul-task

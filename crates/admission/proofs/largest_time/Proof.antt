@@ -8,18 +8,21 @@ use borrow.Author.Needs.{needs}
 use Rattle.admission.proofs.largest_time.Statement.{statement}
 use Rattle.admission.proofs.largest_time.Tie as tie
 
-frames-in-requires : tie.Need-frames-in-requires
-frames-in-requires c κs = search needs
+cast-in-use : tie.Need-cast-in-use
+cast-in-use c = search needs
+
+in-use-requires : tie.Need-in-use-requires
+in-use-requires c κs = search needs
 
 largest-requires : tie.Need-largest-requires
-largest-requires c κs = (c .before .frames-in .ensures .1, omega arith)
+largest-requires c κs = (search needs, omega arith)
 
 returns : tie.Need-returns
 unfolding task-in
 returns c =
-    let r = c .before .before .before .before .args .task in
-    c .largest .ensures ∙ ap largest (frames-used r _ (c .before .before .frames-in .ensures))
+    let r = c .before .before .before .before .before .args .task in
+    c .largest .ensures ∙ ap largest (frames-used r _ (c .before .before .in-use .ensures, search needs))
 
 pub largest-time-spec : {M : Type 1} → statement M
 largest-time-spec =
-    tie.close (tie.spec frames-in-requires largest-requires returns)
+    tie.close (tie.spec cast-in-use in-use-requires largest-requires returns)

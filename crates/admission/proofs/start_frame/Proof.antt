@@ -6,6 +6,7 @@ use native.Mathlib.Omega.{arith}
 use lib.ListN.{length, take}
 use Rattle.theory.specs.First.{first}
 use Rattle.theory.specs.Tasks.{frame-count, qualifies}
+use Rattle.sheet.specs.Constants.{most-frames}
 use Rattle.sheet.specs.Tasks.{task-in}
 use Rattle.admission.specs.Inside.Frames.{of-frames}
 use Rattle.admission.specs.Start.{start-of}
@@ -25,23 +26,30 @@ Inv-loop frames count s₀ s =
 abbrev μ-loop : tie.MeasureT-loop
 μ-loop frames count s₀ s = count - s
 
--- the frames in use are all that the start depends on
-same : (c : tie.After-frames-in Inv-loop μ-loop)
-    → let r = c .before .before .args .task in start-of (of-frames (take (c .frames-in .result) (r .frames))) ≡ start-of (task-in r)
-same c =
-    let r = c .before .before .args .task in
-    ap (λ (fs : List ℕ). start-of (of-frames fs)) (frames-used r _ (c .frames-in .ensures)) ∙ start-of-frames (task-in r)
+-- the array of a task's frames has its eight places
+long : (c : tie.Start Inv-loop μ-loop) → length (c .args .task .frames) ≡ most-frames
+long c = search needs
 
-frames-in-requires : tie.Need-frames-in-requires Inv-loop μ-loop
-frames-in-requires c κs = search needs
+-- the frames in use are all that the start depends on
+same : (c : tie.After-in-use Inv-loop μ-loop)
+    → let r = c .before .before .before .args .task in start-of (of-frames (take (c .in-use .result) (r .frames))) ≡ start-of (task-in r)
+same c =
+    let r = c .before .before .before .args .task in
+    ap (λ (fs : List ℕ). start-of (of-frames fs)) (frames-used r _ (c .in-use .ensures, long (c .before .before .before))) ∙ start-of-frames (task-in r)
+
+cast-in-use : tie.Need-cast-in-use Inv-loop μ-loop
+cast-in-use c = search needs
+
+in-use-requires : tie.Need-in-use-requires Inv-loop μ-loop
+in-use-requires c κs = search needs
 
 loop-holds : tie.Need-loop-holds Inv-loop μ-loop
 loop-holds c =
-    let there : c .frames-in .result ≤ length (c .before .before .args .task .frames) = omega arith in
+    let there : c .in-use .result ≤ length (c .before .before .before .args .task .frames) = omega (arith, long (c .before .before .before)) in
     (search needs, starts-all _ _ (count-is _ _ there))
 
 qualifies-requires : tie.Need-qualifies-requires Inv-loop μ-loop
-qualifies-requires c κs = (c .before .before .before .frames-in .ensures .1, omega arith, c .before .loop-test .taken)
+qualifies-requires c κs = (search needs, omega arith, c .before .loop-test .taken)
 
 cast-t9 : tie.Need-cast-t9 Inv-loop μ-loop
 cast-t9 c = search needs
@@ -71,7 +79,8 @@ start-frame-spec =
     (tie.spec
     Inv-loop
     μ-loop
-    frames-in-requires
+    cast-in-use
+    in-use-requires
     loop-holds
     qualifies-requires
     cast-t9

@@ -25,18 +25,21 @@ returns-4 : tie.Need-returns-4
 unfolding task-in
 returns-4 c = sym (turned-away _ (λ f. omega arith))
 
-frames-in-requires : tie.Need-frames-in-requires
-frames-in-requires c κs = search needs
+cast-in-use : tie.Need-cast-in-use
+cast-in-use c = search needs
+
+in-use-requires : tie.Need-in-use-requires
+in-use-requires c κs = search needs
 
 frames-between-requires : tie.Need-frames-between-requires
-frames-between-requires c κs = (c .before .frames-in .ensures .1, omega arith)
+frames-between-requires c κs = (search needs, omega arith)
 
 returns-5 : tie.Need-returns-5
 unfolding task-in
 returns-5 c =
-    let r = c .before .before .before .before .before .before .before .before .before .args .task in
+    let r = c .before .before .before .before .before .before .before .before .before .before .args .task in
     c .frames-between .ensures
-    ∙ ap (all-between 1 (r .deadline)) (frames-used r _ (c .before .before .frames-in .ensures))
+    ∙ ap (all-between 1 (r .deadline)) (frames-used r _ (c .before .before .in-use .ensures, search needs))
     ∙ frames-decide (task-in r) (omega arith) (omega arith) (omega arith) (omega arith)
 
 pub well-formed-spec : {M : Type 1} → statement M
@@ -47,6 +50,7 @@ well-formed-spec =
     returns-2
     returns-3
     returns-4
-    frames-in-requires
+    cast-in-use
+    in-use-requires
     frames-between-requires
     returns-5)
