@@ -17,7 +17,7 @@ const WIDTH: usize = Sheet::FRAME_ROOM;
 // The times of one task put over those that stand from `at` on.
 fn put_times(times: &mut [u32], at: usize, row: [u32; Sheet::FRAME_ROOM])
     requires { ⌜ at + most-frames ≤ length (now times) ⌝ }
-    ensures { λ _. ⌜ (length row ≡ most-frames) × (now (times .exit) ≡ take at (now (times .entry)) ++ row ++ drop (at + most-frames) (now (times .entry))) ⌝ }
+    ensures { λ _. ⌜ now (times .exit) ≡ take at (now (times .entry)) ++ row ++ drop (at + most-frames) (now (times .entry)) ⌝ }
 {
     for k in 0..WIDTH {
         times[at + k] = row[k];

@@ -40,7 +40,7 @@ fn times_to(
     ensures { λ r. ⌜ r ≡ slots-by true (times-to above blocked task) ⌝ }
 {
     let frames = task.frames;
-    let count = sheet::frames_in(task.frame_count, frames);
+    let count = sheet::in_use(task.frame_count as usize, Sheet::FRAME_ROOM);
     let mut times = [0; Sheet::FRAME_ROOM];
     for k in 0..count {
         let c = frames[k];
@@ -65,8 +65,7 @@ fn finding(
 ) -> Finding
     ensures { λ r. ⌜ r ≡ finding-with number blocked (task-in task) passes times ⌝ }
 {
-    let frames = task.frames;
-    let count = sheet::frames_in(task.frame_count, frames);
+    let count = sheet::in_use(task.frame_count as usize, Sheet::FRAME_ROOM);
     Finding {
         number,
         period: task.period,

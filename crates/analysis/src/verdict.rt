@@ -35,8 +35,7 @@ pub fn verdict_of(o: Ordered, findings: [Finding; Sheet::TASK_ROOM]) -> Outcome
     requires { ⌜ findings ≡ findings-of (numbers-of o) (tasks-in-order o) ⌝ }
     ensures { λ r. ⌜ r ≡ verdict-number (numbers-of o) (verdict (tasks-in-order o)) ⌝ }
 {
-    let tasks = o.tasks;
-    let count = sheet::tasks_in(o.count, tasks);
+    let count = sheet::in_use(o.count as usize, Sheet::TASK_ROOM);
     for p in 0..count {
         let f = findings[p];
         if !f.passes {

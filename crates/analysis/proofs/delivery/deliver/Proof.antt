@@ -65,7 +65,7 @@ loop-again c =
     let a = k .before .before .before .args in
     let step =
     numbers-more (a .t1) (k .before .before .before .pre) (now (a .times)) (k .loop .inv .2) (k .loop .times) (k .loop .p) (omega arith) (k .loop .inv .3) in
-    (search needs, refl, k .loop .inv .2, rw (c .before .before .put-times .ensures .1) step)
+    (search needs, refl, k .loop .inv .2, rw (c .before .before .put-times .ensures) step)
 
 same-length : tie.Need-same-length Inv-loop μ-loop
 same-length c = c .before .loop .inv .3 .long

@@ -55,7 +55,7 @@ same-length c =
 returns : tie.Need-returns Inv-loop μ-loop
 returns c =
     let inv = c .before .loop .inv in
-    (inv .1, inv .3 ∙ all-put _ _ _ most-frames (inv .2) (inv .1) _ (omega arith))
+    inv .3 ∙ all-put _ _ _ most-frames (inv .2) (inv .1) _ (omega arith)
 
 pub put-times-spec : {M : Type 1} → statement M
 put-times-spec =

@@ -22,11 +22,14 @@ Inv-loop above blocked task largest known frames count times₀ k₀ times k =
 abbrev μ-loop : tie.MeasureT-loop
 μ-loop above blocked task largest known frames count times₀ k₀ times k = count - k
 
-frames-in-requires : tie.Need-frames-in-requires Inv-loop μ-loop
-frames-in-requires c κs = search needs
+cast-in-use : tie.Need-cast-in-use Inv-loop μ-loop
+cast-in-use c = search needs
+
+in-use-requires : tie.Need-in-use-requires Inv-loop μ-loop
+in-use-requires c κs = search needs
 
 loop-holds : tie.Need-loop-holds Inv-loop μ-loop
-loop-holds c = (search needs, omega arith, c .frames-in .ensures .1, none-filled most-frames 0 _)
+loop-holds c = (search needs, omega arith, search needs, none-filled most-frames 0 _)
 
 mul-c : tie.Need-mul-c Inv-loop μ-loop
 mul-c c = search needs
@@ -63,8 +66,8 @@ loop-less c = search needs
 
 loop-again : tie.Need-loop-again Inv-loop μ-loop
 loop-again c =
-    let a = c .before .before .before .before .before .args in
-    let n = c .before .before .before .frames-in .result in
+    let a = c .before .before .before .before .before .before .args in
+    let n = c .before .before .before .in-use .result in
     let k = c .before .before .loop .k in
     let small : n ≤ most-frames = omega arith in
     let inside : k < n = omega arith in
@@ -75,21 +78,21 @@ loop-again c =
       small,
       room,
       ⊎-elim
-          (λ w. w .1 ∙ more (a .known) inside so-far (c .before .before .before .before .before .pre ∙ ap (λ (x : ℕ). as-written (response-to (a .above) (a .blocked) x (shortest-deadline (task-in (a .task))))) (sym (w .0 .taken))))
+          (λ w. w .1 ∙ more (a .known) inside so-far (c .before .before .before .before .before .before .pre ∙ ap (λ (x : ℕ). as-written (response-to (a .above) (a .blocked) x (shortest-deadline (task-in (a .task))))) (sym (w .0 .taken))))
           (λ w. w .4 ∙ more _ inside so-far (w .3 .ensures ∙ ap as-written (w .2 .ensures ∙ ap (response-to (a .above) (a .blocked) _) (w .1 .ensures ∙ one-deadline (task-in (a .task)) k))))
           (c .if1 .came),
     )
 
 returns : tie.Need-returns Inv-loop μ-loop
 returns c =
-    let a = c .before .before .before .before .args in
-    let n = c .before .before .frames-in .result in
+    let a = c .before .before .before .before .before .args in
+    let n = c .before .before .in-use .result in
     let small : n ≤ most-frames = omega arith in
     let done : n ≡ c .before .loop .k = omega arith in
     let room = c .before .loop .inv .2 in
     c .before .loop .inv .3
     ∙ up-to-all (a .above) (a .blocked) (shortest-deadline (task-in (a .task))) n (a .task .frames) small room (c .before .loop .k) done
-    ∙ slots-to (a .above) (a .blocked) (a .task) n (c .before .before .frames-in .ensures)
+    ∙ slots-to (a .above) (a .blocked) (a .task) n (c .before .before .in-use .ensures, room)
 
 pub times-to-spec : {M : Type 1} → statement M
 times-to-spec =
@@ -97,7 +100,8 @@ times-to-spec =
     (tie.spec
     Inv-loop
     μ-loop
-    frames-in-requires
+    cast-in-use
+    in-use-requires
     loop-holds
     mul-c
     array-read-c

@@ -4,6 +4,7 @@ use lib.ListN.{length}
 use Prim.Native.Nat.{_≤_, _-_}
 use native.Mathlib.Omega.{arith}
 use Rattle.sheet.specs.Constants.{most-tasks}
+use Rattle.sheet.proofs.Records.{mapped-length}
 use Rattle.analysis.proofs.InUse.{tasks-count}
 use Rattle.order.specs.Ordered.{tasks-in-order}
 use borrow.Author.Needs.{needs}
@@ -17,11 +18,14 @@ Inv-loop o findings count p₀ p = (p ≤ count) × (count ≤ most-tasks) × Pa
 abbrev μ-loop : tie.MeasureT-loop
 μ-loop o findings count p₀ p = count - p
 
-in-use : (c : tie.After-tasks-in Inv-loop μ-loop) → length (tasks-in-order (c .before .before .args .o)) ≡ c .tasks-in .result
-in-use c = tasks-count _ _ (c .tasks-in .ensures)
+all : (c : tie.After-in-use Inv-loop μ-loop) → length (tasks-in-order (c .before .before .args .o)) ≡ c .in-use .result
+all c = tasks-count _ _ (c .in-use .ensures, search (needs, mapped-length))
 
-tasks-in-requires : tie.Need-tasks-in-requires Inv-loop μ-loop
-tasks-in-requires c κs = search needs
+cast-in-use : tie.Need-cast-in-use Inv-loop μ-loop
+cast-in-use c = search needs
+
+in-use-requires : tie.Need-in-use-requires Inv-loop μ-loop
+in-use-requires c κs = search needs
 
 loop-holds : tie.Need-loop-holds Inv-loop μ-loop
 loop-holds c = (search needs, omega arith, none-passed _)
@@ -33,11 +37,11 @@ array-copy-out-f : tie.Need-array-copy-out-f Inv-loop μ-loop
 array-copy-out-f c = search needs
 
 missed-requires : tie.Need-missed-requires Inv-loop μ-loop
-missed-requires c κs = omega (arith, in-use (c .before .before .before .before .before))
+missed-requires c κs = omega (arith, all (c .before .before .before .before .before))
 
 returns : tie.Need-returns Inv-loop μ-loop
 returns c =
-    let h = in-use (c .before .before .before .before .before .before) in
+    let h = all (c .before .before .before .before .before .before) in
     let here = says-no _ _ _ _ (c .before .before .before .before .before .before .before .before .pre) (omega arith) (c .before .if1 .taken) in
     c .missed .ensures ∙ first-missed _ _ _ (c .before .before .before .before .before .loop .inv .2) (omega arith) here
 
@@ -49,13 +53,13 @@ loop-less c = search needs
 
 loop-again : tie.Need-loop-again Inv-loop μ-loop
 loop-again c =
-    let h = in-use (c .before .before .before .before .before) in
+    let h = all (c .before .before .before .before .before) in
     let here = says-yes _ _ _ _ (c .before .before .before .before .before .before .before .pre) (omega arith) (c .if1 .left) in
     (search needs, search needs, one-passed _ _ (c .before .before .before .before .loop .inv .2) here)
 
 returns-2 : tie.Need-returns-2 Inv-loop μ-loop
 returns-2 c =
-    let h = in-use (c .before .before) in
+    let h = all (c .before .before) in
     all-passed _ _ _ (c .before .loop .inv .2) (omega arith)
 
 pub verdict-of-spec : {M : Type 1} → statement M
@@ -64,7 +68,8 @@ verdict-of-spec =
     (tie.spec
     Inv-loop
     μ-loop
-    tasks-in-requires
+    cast-in-use
+    in-use-requires
     loop-holds
     mul-f
     array-copy-out-f
