@@ -1,10 +1,9 @@
 // The sheet: its constants, stated once, the task record, and the refusals by number.
 ghost use mathlib.Core.Path.{_≡_};
-ghost use Prim.Native.Nat.{_<_, _^_, min};
-ghost use lib.ListN.{length};
+ghost use Prim.Native.Nat.{min};
 ghost use Rattle.theory.specs.Tasks.{deadline-of, shortest-deadline};
 ghost use Rattle.sheet.specs.Pairs.{the-widths, the-limits, the-policies};
-ghost use Rattle.sheet.specs.Constants.{most-tasks, most-frames};
+ghost use Rattle.sheet.specs.Constants.{most-frames};
 ghost use Rattle.sheet.specs.Fields.{header-widths, fixed-widths, frame-widths};
 ghost use Rattle.sheet.specs.Tasks.{task-in, blank-record, blank-set, next-round};
 ghost use Rattle.sheet.specs.Admission.{known-policy, miscounted};
@@ -221,26 +220,6 @@ pub fn in_use(count: usize, most: usize) -> usize
     most
 }
 
-// How many of a record's frames are in use: no more than there are slots.
-pub fn frames_in(count: u32, frames: [u32; Sheet::FRAME_ROOM]) -> usize
-    ensures { λ r. ⌜ (r ≡ min count most-frames) × (length frames ≡ most-frames) ⌝ }
-{
-    if count < Sheet::MOST_FRAMES {
-        return count as usize;
-    }
-    Sheet::MOST_FRAMES as usize
-}
-
-// How many of a set's records are in use.
-pub fn tasks_in(count: u32, tasks: [Task; Sheet::TASK_ROOM]) -> usize
-    ensures { λ r. ⌜ (r ≡ min count most-tasks) × (length tasks ≡ most-tasks) ⌝ }
-{
-    if count < Sheet::MOST_TASKS {
-        return count as usize;
-    }
-    Sheet::MOST_TASKS as usize
-}
-
 // Whether a policy is one of the known.
 pub fn known_policy(policy: u32) -> bool
     ensures { λ r. ⌜ r ≡ known-policy policy ⌝ }
@@ -283,13 +262,6 @@ pub fn shortest_deadline(task: Task) -> u32
     ensures { λ r. ⌜ r ≡ shortest-deadline (task-in task) ⌝ }
 {
     task.deadline
-}
-
-// Sums of times are held in 64 bits.
-pub fn wide(x: u32) -> u64
-    ensures { λ r. ⌜ (r ≡ x) × (r < 2 ^ 32) ⌝ }
-{
-    x as u64
 }
 
 // What is turned away, in the order of the numbers 1 to 12; a task number where the number belongs to a task.
