@@ -1,4 +1,4 @@
--- Functions that hand a gathered list and a lent memory of numbers on to a function on a set, and give back what it answers: one walk for all of them.
+-- Functions that hand a gathered list and lent memory for numbers on to a function on a set, and give back what it answers: one walk for all of them.
 -- All that it knows of `gathered` and of that function is that each meets its contract. The memory goes to it at its own lifetime, share and name, and is given up for good (`gave-slice`).
 use mathlib.Core.Path.{_≡_, refl, _∙_}
 use Prim.Native.Nat.{ℕ, _<_, _^_}

@@ -1,4 +1,4 @@
--- The C entries of a policy, a list and a lent memory of numbers: the function that they call, and the one number of what it answers. One walk for all of them.
+-- The C entries of a policy, a list and lent memory for numbers: the function that they call, and the one number of what it answers. One walk for all of them.
 -- All that it knows of the two functions is that each meets its contract.
 use mathlib.Core.Path.{_≡_, refl}
 use Prim.Native.Nat.{ℕ, _<_, _^_}

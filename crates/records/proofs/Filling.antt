@@ -1,4 +1,4 @@
--- Zeros up to a whole byte, what is left behind the last field, and the record that a string is made.
+-- Zeros up to a whole byte, what is left behind the last field, and the sealed record that a string is made.
 use mathlib.Core.Bool.{Bool, true, false, not, cond, true≢false}
 use mathlib.Core.List.{List, [], _∷_, _++_, append-nil}
 use mathlib.Core.Path.{_≡_, refl, sym, ap, ap₂, _∙_}
@@ -52,9 +52,9 @@ whole-of b bits n h l e =
     ∙ ap (bytes-of (length b)) (sym e)
     ∙ bytes-bits b h
 
-pub length-record : (bits : List Bool) → length (sealed-record bits) ≡ sealed-size (length bits)
+pub length-sealed : (bits : List Bool) → length (sealed-record bits) ≡ sealed-size (length bits)
 unfolding sealed-record
-length-record bits = length-seal (whole-bytes bits) ∙ ap (λ (n : ℕ). n + word-size) (length-whole bits)
+length-sealed bits = length-seal (whole-bytes bits) ∙ ap (λ (n : ℕ). n + word-size) (length-whole bits)
 
 -- ---- bits that are set
 
@@ -112,7 +112,7 @@ module _ (bs : List Bool) where
   pub rest-none : length bs ≡ 0 → Zeros ≡ rest-of bs
   rest-none e = rest-zeros (omega arith) (no-bits bs e)
 
--- ---- a string made a record
+-- ---- a string made a sealed record
 
 -- zero bits are the digits of 0
 pub zero-digits : (w : ℕ) → digits w 0 ≡ replicate w false

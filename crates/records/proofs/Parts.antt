@@ -1,4 +1,4 @@
--- Parts of lists: equal elements, and what is laid over a memory as long.
+-- Parts of lists: equal elements, and what is laid over memory of the same length.
 use mathlib.Core.List.{List, _∷_, append-nil}
 use mathlib.Core.Path.{_≡_, refl, ap, _∙_}
 use Prim.Native.Nat.{ℕ, zero, suc, _-_, _≤_}

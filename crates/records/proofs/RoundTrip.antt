@@ -1,4 +1,4 @@
--- What was put is taken, everything else stays, bits behind bits compose, and a record holds what was put into it: for every byte string, position and row.
+-- What was put is taken, everything else stays, bits behind bits compose, and a sealed record holds what was put into it: for every byte string, position and row.
 use mathlib.Core.Bool.{Bool, true, false, cond}
 use mathlib.Core.List.{List, [], _∷_, _++_, append-assoc}
 use mathlib.Core.Logic.{_⊎_, inl, inr}
@@ -103,15 +103,15 @@ module _ (s : List ℕ) (at : ℕ) (ws vs : List ℕ) (e : row-fits (length s) a
       (ap (unpacked ws) (ap (λ (t : List ℕ). drop at (bits-of t)) stored-is ∙ behind-with s at (packed ws vs) row-room)
       ∙ unpacked-packed (fit-of ws vs (row .fits)) _)
 
--- ---- records
+-- ---- sealed records
 
--- a string of a record's size that starts with some bits is closed to their record
+-- a string of a sealed record's size that starts with some bits is closed to their sealed record
 pub closed-is : (s : List ℕ) (n : ℕ) (bits : List Bool) → take n (bits-of s) ≡ bits → length s ≡ sealed-size n → closed s n ≡ sealed-record bits
 unfolding closed
 closed-is s n bits e h =
     ap (λ (b : Bool). cond b (sealed-record (take n (bits-of s))) s) (eq-eqb (length s) (sealed-size n) h) ∙ ap sealed-record e
 
--- a record's bytes before the check word are its bits and the fill, and nothing else is left behind its bits
-pub record-bits : (bits : List Bool) → bits-of (body (sealed-record bits)) ≡ bits ++ replicate (fill-of bits) false
+-- a sealed record's bytes before the check word are its bits and the fill
+pub sealed-bits : (bits : List Bool) → bits-of (body (sealed-record bits)) ≡ bits ++ replicate (fill-of bits) false
 unfolding sealed-record
-record-bits bits = ap bits-of (body-seal (whole-bytes bits)) ∙ bits-whole bits
+sealed-bits bits = ap bits-of (body-seal (whole-bytes bits)) ∙ bits-whole bits

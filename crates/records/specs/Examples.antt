@@ -38,7 +38,7 @@ pub take-none : taken-row (0xF1 ∷ 0x83 ∷ []) 4 (4 ∷ 2 ∷ 7 ∷ []) (7 ∷
 unfolding rows
 take-none = refl
 
--- the first nine bits of a string of four bytes made a record: seven zeros, and the check word of 41 00
+-- the first nine bits of a string of four bytes made a sealed record: seven zeros, and the check word of 41 00
 pub close-nine : closed (0x41 ∷ 0x7F ∷ 0xAB ∷ 0xCD ∷ []) 9 ≡ 0x41 ∷ 0x00 ∷ 0x23 ∷ 0xF2 ∷ []
 unfolding records
 close-nine = refl

@@ -63,10 +63,10 @@ taken-row s at ws ns = cond (row-has-slots (length s) at ws (length ns)) (laid (
 abbrev pub width-of : List ℕ → ℕ
 width-of ws = min (total ws) last-position
 
--- a string has the size of the record of its first n bits
+-- a string has the size of the sealed record of its first n bits
 abbrev pub closes : ℕ → ℕ → Bool
 closes size n = eqb size (sealed-size n)
 
--- the string made the record of its first n bits; as it was, where it has not that record's size
+-- the string made the sealed record of its first n bits; as it was, where it has not that record's size
 unfoldable pub closed : List ℕ → ℕ → List ℕ
 closed s n = cond (closes (length s) n) (sealed-record (take n (bits-of s))) s

@@ -1,4 +1,4 @@
--- A record: bits filled up to whole bytes, and their check word behind them.
+-- A sealed record: bits filled up to whole bytes, and their check word behind them.
 use mathlib.Core.Bool.{Bool, true, false, cond}
 use mathlib.Core.List.{List, [], _∷_, _++_}
 use Prim.Native.Nat.{ℕ, _+_, _-_, _*_, _/_}
@@ -21,11 +21,11 @@ bytes-for n = (n + 7) / 8
 unfoldable pub whole-bytes : List Bool → List ℕ
 whole-bytes bits = let n = bytes-for (length bits) in bytes-of n (bits ++ replicate (8 * n - length bits) false)
 
--- the record of some bits: whole bytes, and the check word of these
+-- the sealed record of some bits: whole bytes, and the check word of these
 unfoldable pub sealed-record : List Bool → List ℕ
 sealed-record bits = seal (whole-bytes bits)
 
--- how many bytes the record of n bits has
+-- how many bytes the sealed record of n bits has
 abbrev pub sealed-size : ℕ → ℕ
 sealed-size n = bytes-for n + word-size
 

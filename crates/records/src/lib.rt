@@ -189,14 +189,14 @@ pub fn left_behind(bytes: &[u8], at: usize) -> Rest
     Rest::Zeros
 }
 
-// How many bytes a record of so many bits has.
+// How many bytes a sealed record of so many bits has.
 pub fn sealed_size(bits: usize) -> usize
     ensures { λ r. ⌜ r ≡ sealed-size bits ⌝ }
 {
     bits / 8 + (bits % 8 + 7) / 8 + check_word::SIZE
 }
 
-// Makes a string the record of its first bits, where it has that record's size: zero bits up to a whole byte, the check word behind.
+// Makes a string the sealed record of its first bits, where it has that record's size: zero bits up to a whole byte, the check word behind.
 pub fn close(bytes: &mut [u8], bits: usize) -> bool
     ensures { λ r. ⌜ (r ≡ closes (length (now (bytes .entry))) bits) × (now (bytes .exit) ≡ closed (now (bytes .entry)) bits) ⌝ }
 {

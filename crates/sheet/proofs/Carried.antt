@@ -46,7 +46,7 @@ few-by-checks i (r ∷ rs) e =
     let few : FewFrames (task-in r) = rw (length-take (r .«frame_count») (r .frames)) (omega arith) in
     task-more {t = task-in r} few (few-by-checks (suc i) rs (here .1))
 
--- what the checks of a set found
+-- what a set has that passes its checks
 record Passes (s : TaskSet) : Type 0 where
   policy-known : known-policy (s .policy) ≡ true
   some-task : 1 ≤ s .«task_count»
@@ -111,8 +111,8 @@ to-admission {policy} {ts} c = answer-of-tasks policy ts (c .policy-known) (c .s
 
 -- ---- an admitted sheet
 
--- what the checks of a sheet found
-pub record Found (s : List ℕ) : Type 0 where
+-- what a sheet has that passes its checks
+pub record PassedSheet (s : List ℕ) : Type 0 where
   pub long-enough : least-size ≤ length s
   pub short-enough : length s ≤ greatest-size
   pub sealed-well : sealed s ≡ true
@@ -132,9 +132,9 @@ reading-answer s = go (decided (sheet-checks s))
     go Admitted = refl
     go (Refused r) = refl
 
-pub found : (s : List ℕ) → reading s .answer ≡ Admitted → Found s
+pub passed-sheet : (s : List ℕ) → reading s .answer ≡ Admitted → PassedSheet s
 unfolding sheet-checks policy-check task-count-check policy-of tasks-of
-found s a =
+passed-sheet s a =
     let bits = bits-of (body s) in
     let header = header-in bits in
     let one = passed _ _ (sym (reading-answer s) ∙ a) in
@@ -162,7 +162,7 @@ found s a =
 pub by-reading : (s : List ℕ) → reading s .answer ≡ Admitted → Carried (policy-of s) (tasks-of s)
 unfolding tasks-of
 by-reading s a =
-    let f : Found s = found s a in
+    let f : PassedSheet s = passed-sheet s a in
     let n = length-tasks-in (header-in (bits-of (body s)) .task-count) (behind-header (bits-of (body s))) in
     record {
       policy-known = f .policy-known;

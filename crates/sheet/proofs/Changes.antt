@@ -19,7 +19,7 @@ use Rattle.sheet.specs.declared.Answer.{Answer}
 use Rattle.sheet.specs.declared.Answer.the-variants.{Admitted, Refused}
 use Rattle.sheet.specs.declared.Refusal.the-variants.{Length, CheckWord}
 use Rattle.sheet.proofs.Checks.{applies, passed-over}
-use Rattle.sheet.proofs.Carried.{Found, found}
+use Rattle.sheet.proofs.Carried.{PassedSheet, passed-sheet}
 
 -- a byte string of a lawful length that is not sealed is refusal 2
 pub unsealed-is-refused-2 : (t : List ℕ) → least-size ≤ length t → length t ≤ greatest-size → sealed t ≡ false
@@ -36,7 +36,7 @@ pub burst-is-refused-2 : (s t : List ℕ) (k : ℕ) → Bytes s → Bytes t → 
     → AgreeOutside k 16 (bits-of s) (bits-of t) → ¬ (s ≡ t)
     → reading t ≡ record { answer = Refused CheckWord; set = blank-set }
 burst-is-refused-2 s t k hs ht a l same ne =
-    let f : Found s = found s a in
+    let f : PassedSheet s = passed-sheet s a in
     unsealed-is-refused-2 t (omega arith) (omega arith) (detects-burst s t k hs ht l (f .sealed-well) same ne)
 
 length-inverted : (s : List ℕ) (i : ℕ) → length (with-bit-inverted i s) ≡ length s
@@ -47,6 +47,6 @@ length-inverted s i = length-bytes (length s) (inverted i (bits-of s))
 pub one-bit-is-refused : (s : List ℕ) (i : ℕ) → Bytes s → reading s .answer ≡ Admitted → i < 8 * length s
     → reading (with-bit-inverted i s) ≡ record { answer = Refused CheckWord; set = blank-set }
 one-bit-is-refused s i hs a h =
-    let f : Found s = found s a in
+    let f : PassedSheet s = passed-sheet s a in
     let l : length (with-bit-inverted i s) ≡ length s = length-inverted s i in
     unsealed-is-refused-2 (with-bit-inverted i s) (omega arith) (omega arith) (detects-one-bit s i hs h (f .sealed-well))

@@ -15,7 +15,7 @@ use Rattle.sheet.specs.declared.Reading.{Reading}
 use Rattle.sheet.specs.declared.Written.the-variants.{Bytes}
 use Rattle.sheet.specs.declared.Answer.the-variants.{Admitted}
 use Rattle.sheet.proofs.Records.{tasks-with}
-use Rattle.sheet.proofs.Carried.{count-in-use, by-admission, to-admission, found, by-reading, admitted-reading}
+use Rattle.sheet.proofs.Carried.{count-in-use, by-admission, to-admission, passed-sheet, by-reading, admitted-reading}
 use Rattle.sheet.proofs.SheetBits.{sheet-is-read, sheet-of-carried}
 use Rattle.sheet.proofs.WhatIsWritten.{is-written, bytes-written, take-left}
 
@@ -53,7 +53,7 @@ writer-then-reader s room n full e =
 
 -- An admitted byte string is the sheet of the policy and the tasks that it carries.
 pub read-then-write : (s : List ℕ) → IsBytes s → reading s .answer ≡ Admitted → sheet-of (policy-of s) (tasks-of s) ≡ s
-read-then-write s h a = sheet-of-carried s h (found s a)
+read-then-write s h a = sheet-of-carried s h (passed-sheet s a)
 
 -- Demand 2, a sheet first: the set that was read from an admitted byte string writes to the same bytes.
 pub read-then-write-set : (s : List ℕ) → IsBytes s → reading s .answer ≡ Admitted → sheet-bytes (reading s .set) ≡ s

@@ -15,7 +15,7 @@ use Rattle.check_word.proofs.Sealing.{sealed-seal, seal-body}
 use Rattle.records.specs.Rows.{total}
 use Rattle.records.specs.Sealed.{whole-bytes, sealed-record}
 use Rattle.records.proofs.Filling.{fill-of, fill-short, whole-of}
-use Rattle.records.proofs.RoundTrip.{record-bits}
+use Rattle.records.proofs.RoundTrip.{sealed-bits}
 use Rattle.theory.specs.Tasks.{Task}
 use Rattle.sheet.specs.Constants.{the-version, most-tasks, least-size, greatest-size}
 use Rattle.sheet.specs.Fields.{header-widths}
@@ -30,7 +30,7 @@ use Rattle.sheet.proofs.Checks.{admitted-first, passed-over}
 use Rattle.sheet.proofs.Counts.{count-passes, policy-passes, known-small}
 use Rattle.sheet.proofs.RecordBits.{header-written, records-written, header-read, tasks-written, layout-written, length-tasks-in}
 use Rattle.sheet.proofs.Sizes.{size-between}
-use Rattle.sheet.proofs.Carried.{Carried, carried-fit, Found, reading-answer, admitted-reading}
+use Rattle.sheet.proofs.Carried.{Carried, carried-fit, PassedSheet, reading-answer, admitted-reading}
 
 -- ---- from a set to its sheet and back
 
@@ -48,7 +48,7 @@ module _ (policy : ℕ) (ts : List Task) (c : Carried policy ts) where
   body-bits : bits-of (body (sheet-of policy ts)) ≡ header-bits policy (length ts) ++ records-and-fill
   unfolding sheet-of set-bits fill records-and-fill
   body-bits =
-      record-bits (set-bits policy ts)
+      sealed-bits (set-bits policy ts)
       ∙ append-assoc (header-bits policy (length ts)) (tasks-bits ts) (replicate fill false)
 
   the-header : Header
@@ -100,12 +100,12 @@ module _ (policy : ℕ) (ts : List Task) (c : Carried policy ts) where
 
 -- ---- from a sheet to its set and back
 
-header-there : (s : List ℕ) → Found s → total header-widths ≤ length (bits-of (body s))
+header-there : (s : List ℕ) → PassedSheet s → total header-widths ≤ length (bits-of (body s))
 unfolding body total
 header-there s f = rw (length-bits (body s), length-take-le (length s - 2) s (omega arith)) (omega (arith, f .long-enough))
 
 -- the bits of a sheet whose checks pass: header and task records of what it carries, and the fill
-carried-bits : (s : List ℕ) (f : Found s) → bits-of (body s) ≡ set-bits (policy-of s) (tasks-of s) ++ replicate (f .layout .fill) false
+carried-bits : (s : List ℕ) (f : PassedSheet s) → bits-of (body s) ≡ set-bits (policy-of s) (tasks-of s) ++ replicate (f .layout .fill) false
 unfolding set-bits policy-of tasks-of behind-header total
 carried-bits s f =
     let bits = bits-of (body s) in
@@ -119,7 +119,7 @@ carried-bits s f =
     ∙ sym (append-assoc (header-bits (header-in bits .policy) (length ts)) (tasks-bits ts) (replicate (f .layout .fill) false))
 
 -- an admitted byte string is the sheet of what it carries
-pub sheet-of-carried : (s : List ℕ) → Bytes s → Found s → sheet-of (policy-of s) (tasks-of s) ≡ s
+pub sheet-of-carried : (s : List ℕ) → Bytes s → PassedSheet s → sheet-of (policy-of s) (tasks-of s) ≡ s
 unfolding sheet-of sealed-record set-bits body
 sheet-of-carried s h f =
     ap seal

@@ -6,7 +6,7 @@ use native.Mathlib.Omega.{arith}
 use lib.ListN.{length, replicate, length-append}
 use Rattle.records.specs.Rows.{total}
 use Rattle.records.specs.Sealed.{sealed-size}
-use Rattle.records.proofs.Filling.{length-record}
+use Rattle.records.proofs.Filling.{length-sealed}
 use Rattle.theory.specs.Tasks.{Task, frame-count}
 use Rattle.sheet.specs.Constants.{time-width, most-tasks, most-frames, least-size, greatest-size}
 use Rattle.sheet.specs.Fields.{header-widths, fixed-widths, frame-widths}
@@ -45,7 +45,7 @@ pub length-sheet : (policy : ℕ) (ts : List Task) → length (sheet-of policy t
 unfolding sheet-of sheet-size
 length-sheet policy ts =
     let head = header-bits policy (length ts) in
-    length-record (head ++ tasks-bits ts)
+    length-sealed (head ++ tasks-bits ts)
     ∙ ap sealed-size (length-append head (tasks-bits ts) ∙ ap₂ _+_ (length-header policy (length ts)) (length-tasks-bits ts))
 
 -- In numbers: 64 bits and 20 for each frame, in whole bytes behind the header.

@@ -8,7 +8,7 @@ use native.Mathlib.Omega.{arith}
 use lib.ListN.{length, getD, take, length-append}
 use Rattle.records.specs.Rows.{total}
 use Rattle.records.specs.Sealed.{sealed-size}
-use Rattle.records.proofs.Filling.{length-record}
+use Rattle.records.proofs.Filling.{length-sealed}
 use Rattle.sheet.specs.Constants.{most-tasks, greatest-size}
 use Rattle.sheet.specs.Fields.{header-widths}
 use Rattle.sheet.specs.Tasks.{task-in, records-of}
@@ -63,7 +63,7 @@ unfolding sheet-bytes sheet-of records-bits
 size-is s =
     let h = header-bits (s .policy) (length (map task-in (records-of s))) in
     let r = records-bits (records-of s) in
-    length-record (h ++ r) ∙ ap sealed-size (length-append h r ∙ ap (λ (k : ℕ). k + length r) (length-header _ _))
+    length-sealed (h ++ r) ∙ ap sealed-size (length-append h r ∙ ap (λ (k : ℕ). k + length r) (length-header _ _))
 
 module _ (s : TaskSet) (e : admission s ≡ Admitted) (long : length (s .tasks) ≡ most-tasks) where
   pub size-most : length (sheet-bytes s) ≤ greatest-size

@@ -10,7 +10,7 @@ use Rattle.records.specs.Rows.{packed}
 use Rattle.records.specs.Sealed.{sealed-record, sealed-size}
 use Rattle.records.specs.Faces.{end-of, row-fits, closed}
 use Rattle.records.specs.Inside.Steps.{Placed}
-use Rattle.records.proofs.Filling.{length-record}
+use Rattle.records.proofs.Filling.{length-sealed}
 use Rattle.records.proofs.Packing.{Fit, no-field, one-more}
 use Rattle.records.proofs.Placing.{placed-long, placed-behind}
 use Rattle.records.proofs.Putting.{row-can, room-behind, placed-first}
@@ -56,7 +56,7 @@ module _ (s : TaskSet) (e : admission s ≡ Admitted) (long : length (s .tasks) 
   sheet-rows = ap (λ (n : ℕ). sealed-record (header-bits (s .policy) n ++ tasks-bits (map task-in (records-of s)))) (sym (count-in-use s long e))
 
   rows-size : length (sheet-bytes s) ≡ sealed-size (length (H ++ R))
-  rows-size = ap length (sym sheet-rows) ∙ length-record (H ++ R)
+  rows-size = ap length (sym sheet-rows) ∙ length-sealed (H ++ R)
 
   -- the room that the parts find, one behind the other
   module _ (b : List ℕ) (exact : length b ≡ length (sheet-bytes s)) where
