@@ -10,7 +10,8 @@ use Rattle.theory.specs.Tasks.{Task}
 use Rattle.sheet.specs.Constants.{greatest-time}
 use Rattle.sheet.specs.Admission.{is-time, in-range, well-formed}
 use Rattle.admission.specs.Inside.Frames.{all-between}
-use Rattle.admission.proofs.Tests.{same-outcome, fails, is-and, is-leb, is-all}
+use Rattle.theory.proofs.Tests.{is-and, is-leb}
+use Rattle.admission.proofs.Tests.{same-outcome, fails, is-all}
 
 pub record Fits (t : Task) : Type 0 where
   pub period-in : t .period ≤ greatest-time

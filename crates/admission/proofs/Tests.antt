@@ -1,13 +1,11 @@
 -- Tests and what they test.
-use mathlib.Core.Bool.{Bool, true, false, So, _&&_, and-eq-true-iff}
+use mathlib.Core.Bool.{Bool, true, false, So, and-eq-true-iff}
 use mathlib.Core.List.{List, [], _∷_}
 use mathlib.Core.Logic.{_↔_}
 use mathlib.Core.Path.{_≡_, refl, sym}
-use Prim.Native.Nat.{ℕ, zero, suc, _≤_, _<_}
+use Prim.Native.Nat.{ℕ, zero, suc, _<_}
 use native.Mathlib.Nat.{le-of-suc-le-suc}
 use native.Mathlib.Omega.{arith}
-use borrow.Author.Tests.{leb-true, le-leb}
-use lib.Dec.{leb}
 use lib.ListN.{length, getD}
 use Rattle.sheet.specs.Admission.{all}
 
@@ -21,13 +19,6 @@ same-outcome false false f g = refl
 pub fails : (a : Bool) → (a ≡ true → ⊥) → a ≡ false
 fails true f = absurd (f refl)
 fails false f = refl
-
-pub is-and : {a b : Bool} {A B : Type 0} → So a ↔ A → So b ↔ B → So (a && b) ↔ (A × B)
-is-and {a} {b} f g =
-    (λ e. (f .0 (and-eq-true-iff a b .0 e .0), g .0 (and-eq-true-iff a b .0 e .1)), λ x. and-eq-true-iff a b .1 (f .1 (x .0), g .1 (x .1)))
-
-pub is-leb : (a b : ℕ) → So (leb a b) ↔ (a ≤ b)
-is-leb a b = (leb-true a b, le-leb a b)
 
 -- every number of a list passes, by its positions
 pub is-all : {P : ℕ → Type 0} (test : ℕ → Bool) → ((n : ℕ) → So (test n) ↔ P n) → (ns : List ℕ)

@@ -65,22 +65,28 @@ stays-behind at f bs a w h =
     ∙ ap (field a w) (drop-at (take at bs ++ f) (drop (at + length f) bs) (at + length f) (simp (length-append, length-take) (omega arith)))
     ∙ sym (field-drop (at + length f) a w bs)
 
+-- of any elements: a row put over a list and one put behind it are one row
+pub rows-behind : {A : Type 0} (at : ℕ) (f g l : List A) → at ≤ length l
+    → let over = take at l ++ f ++ drop (at + length f) l in
+    take (at + length f) over ++ g ++ drop (at + length f + length g) over ≡ take at l ++ (f ++ g) ++ drop (at + length (f ++ g)) l
+rows-behind {A} at f g l h =
+    rw (take-at (take at l ++ f) (drop (at + length f) l) (at + length f) front, length-append f g, ← add-assoc at (length f) (length g))
+    (ap (λ (r : List A). take at l ++ f ++ g ++ r) behind ∙ ap (λ (r : List A). r ++ drop (at + length f + length g) l) (append-assoc (take at l) f g))
+  where
+    front : length (take at l ++ f) ≡ at + length f
+    front = simp (length-append, length-take) (omega arith)
+
+    behind : drop (at + length f + length g) (take at l ++ f ++ drop (at + length f) l) ≡ drop (at + length f + length g) l
+    behind =
+        ap (λ (k : ℕ). drop (k + length g) (take at l ++ f ++ drop (at + length f) l)) (sym front)
+        ∙ drop-append-add (take at l ++ f) (drop (at + length f) l) (length g)
+        ∙ drop-drop (length g) (at + length f) l
+
 -- two fields, one after the other, are one field
 pub with-fields : (at : ℕ) (f g bs : List Bool) → at + length f + length g ≤ length bs
     → with-field (at + length f) g (with-field at f bs) ≡ with-field at (f ++ g) bs
 unfolding with-field
-with-fields at f g bs h =
-    rw (take-at (take at bs ++ f) (drop (at + length f) bs) (at + length f) front, length-append f g, ← add-assoc at (length f) (length g))
-    (ap (λ (l : List Bool). take at bs ++ f ++ g ++ l) behind ∙ ap (λ (l : List Bool). l ++ drop (at + length f + length g) bs) (append-assoc (take at bs) f g))
-  where
-    front : length (take at bs ++ f) ≡ at + length f
-    front = simp (length-append, length-take) (omega arith)
-
-    behind : drop (at + length f + length g) (take at bs ++ f ++ drop (at + length f) bs) ≡ drop (at + length f + length g) bs
-    behind =
-        ap (λ (k : ℕ). drop (k + length g) (take at bs ++ f ++ drop (at + length f) bs)) (sym front)
-        ∙ drop-append-add (take at bs ++ f) (drop (at + length f) bs) (length g)
-        ∙ drop-drop (length g) (at + length f) bs
+with-fields at f g bs h = rows-behind at f g bs (omega arith)
 
 -- ---- a field among a number's digits: `a` before it, `w` of its own, `p` past it
 

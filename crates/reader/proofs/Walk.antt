@@ -15,6 +15,7 @@ use Rattle.lent.specs.Checks.{Check}
 use Rattle.sheet.specs.Admission.{decided}
 use Rattle.sheet.specs.Reading.{layout-checks}
 use Rattle.sheet.proofs.Checks.{admitted-first, refused-first}
+use Rattle.sheet.proofs.RecordBits.{length-tasks-in}
 use Rattle.sheet.specs.declared.Answer.{Answer}
 use Rattle.sheet.specs.declared.Answer.the-variants.{Admitted, Refused}
 use Rattle.sheet.specs.declared.Reading.{Reading}
@@ -41,11 +42,6 @@ records-width-more (suc n) bs =
     let e = ap record-width (drop-drop (records-width n (drop w bs)) w bs) in
     omega arith
 
-pub length-tasks : (n : ℕ) (bs : List Bool) → length (tasks-in n bs) ≡ n
-unfolding tasks-in
-length-tasks zero bs = refl
-length-tasks (suc n) bs = ap suc (length-tasks n (drop (record-width bs) bs))
-
 pub tasks-more : (n : ℕ) (bs : List Bool) → tasks-in (suc n) bs ≡ tasks-in n bs ++ task-at-start (drop (records-width n bs) bs) ∷ []
 unfolding tasks-in records-width
 tasks-more zero bs = refl
@@ -63,7 +59,7 @@ pub recorded-more : (n : ℕ) (bs : List Bool) → n < most-tasks → set (recor
 unfolding recorded
 recorded-more n bs h =
     rw (tasks-more n bs, map-snoc record-of (tasks-in n bs) (task-at-start (drop (records-width n bs) bs)))
-    (put-next (map record-of (tasks-in n bs)) n most-tasks blank-record _ (length-map (tasks-in n bs) record-of ∙ length-tasks n bs) h)
+    (put-next (map record-of (tasks-in n bs)) n most-tasks blank-record _ (length-map (tasks-in n bs) record-of ∙ length-tasks-in n bs) h)
 
 pub found-answer : (a : Answer) (at : ℕ) (bs : List Bool) → found-by a at bs .answer ≡ a
 unfolding found-by nothing-found
@@ -160,11 +156,11 @@ module _ (s : List ℕ) (start n i at : ℕ) (tasks : List Record) (w : Walked s
     records-are =
         w .held
         ∙ ap (λ (m : ℕ). recorded m all) at-end
-        ∙ ap (λ (m : ℕ). map record-of (tasks-in n all) ++ replicate (most-tasks - m) blank-record) (sym (length-tasks n all))
+        ∙ ap (λ (m : ℕ). map record-of (tasks-in n all) ++ replicate (most-tasks - m) blank-record) (sym (length-tasks-in n all))
 
     sheet-is : (policy : ℕ) → _≡_ {A = TaskSet} (record { policy = policy; «task_count» = n; tasks = tasks }) (set-with policy (tasks-in n all))
     unfolding set-with
-    sheet-is policy = λ k. record { policy = policy; «task_count» = sym (length-tasks n all) k; tasks = records-are k }
+    sheet-is policy = λ k. record { policy = policy; «task_count» = sym (length-tasks-in n all) k; tasks = records-are k }
 
     pub walk-done : (policy : ℕ) → a ≡ Admitted
         → _≡_ {A = Reading} (record { answer = Admitted; set = record { policy = policy; «task_count» = n; tasks = tasks } }) (records-reading policy n all)

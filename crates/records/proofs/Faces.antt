@@ -1,5 +1,5 @@
 -- Laws of the public faces: what putting or taking a row answers and leaves, by the tests that lead there.
-use mathlib.Core.Bool.{Bool, true, false, _&&_, cond, and-eq-true-iff}
+use mathlib.Core.Bool.{Bool, true, false, _&&_, cond, and-eq-true-iff, and-false}
 use mathlib.Core.List.{List}
 use mathlib.Core.Path.{_≡_, sym, ap, ap₂, _∙_}
 use Prim.Native.Nat.{ℕ, _+_, _*_, _≤_, _<_}
@@ -17,7 +17,7 @@ use Rattle.records.specs.declared.Row.{Row}
 use Rattle.records.specs.declared.Row.the-variants.{EndsAt, Untouched}
 use Rattle.records.proofs.Packing.{length-packed}
 use Rattle.records.proofs.Placing.{placed-long}
-use Rattle.records.proofs.Rows.{and-false, there-has, as-many}
+use Rattle.records.proofs.Rows.{there-has, as-many}
 
 -- ---- a row that is put
 

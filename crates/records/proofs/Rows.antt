@@ -1,5 +1,5 @@
 -- Which rows there are and which numbers fit them: the outcomes of `row-there` and `each-fits`, by the fact that decides each.
-use mathlib.Core.Bool.{Bool, true, false, _&&_, and-eq-true-iff, false≢true}
+use mathlib.Core.Bool.{Bool, true, false, _&&_, and-eq-true-iff, and-false, false≢true}
 use mathlib.Core.List.{List, [], _∷_}
 use mathlib.Core.Path.{_≡_, refl, ap, ap₂, _∙_}
 use Prim.Native.Nat.{ℕ, zero, suc, _+_, _-_, _^_, _≤_, _<_}
@@ -13,10 +13,6 @@ use Rattle.bits.proofs.Tests.{leb-iff}
 use Rattle.records.specs.Rows.{total}
 use Rattle.records.specs.Faces.{end-of, lawful, row-there, each-fits}
 use Rattle.records.proofs.Packing.{Fit, no-field, one-more}
-
-pub and-false : (b : Bool) → (b && false) ≡ false
-and-false true = refl
-and-false false = refl
 
 -- ---- widths
 

@@ -1,12 +1,13 @@
 -- Laws of text written into a buffer: one byte, a word, text behind text.
-use mathlib.Core.List.{List, [], _∷_, _++_, append-assoc}
+use mathlib.Core.List.{List, [], _∷_, _++_}
 use mathlib.Core.Path.{_≡_, refl, sym, ap, ap₂, _∙_}
 use Prim.Native.Nat.{ℕ, suc, _+_, _≤_, _<_}
 use native.Mathlib.Nat.{add-zero}
 use native.Mathlib.Numerals.{add-one}
 use native.Mathlib.Omega.{arith}
 use lib.ListN.{length, take, drop, set, length-append, length-take, length-drop}
-use lib.Seq.{set-split, append-snoc, take-at, drop-at, drop-drop, length-take-le, paste-zero}
+use lib.Seq.{set-split, append-snoc, paste-zero}
+use Rattle.bits.proofs.Fields.{rows-behind}
 use Rattle.analysis.proofs.ByNumber.{put, all-put}
 use Rattle.report_text.specs.Inside.TextPut.{TextPut}
 
@@ -35,28 +36,9 @@ module _ {b : List ℕ} {at : ℕ} {s c : List ℕ} {m : ℕ} {t d : List ℕ} {
   pub put-then : at ≤ length b → TextPut b at s c m → TextPut c m t d n → TextPut b at (s ++ t) d n
   put-then h p q =
       record {
-        holds =
-            q .holds
-            ∙ ap₂ (λ (x y : List ℕ). x ++ t ++ y) front back
-            ∙ ap (λ (l : List ℕ). l ++ drop (at + length (s ++ t)) b) (append-assoc (take at b) s t);
-        ends = q .ends ∙ ap (λ (k : ℕ). k + length t) (p .ends) ∙ far;
+        holds = q .holds ∙ ap₂ (λ (k : ℕ) (l : List ℕ). take k l ++ t ++ drop (k + length t) l) (p .ends) (p .holds) ∙ rows-behind at s t b h;
+        ends = rw (length-append s t) (omega (arith, p .ends, q .ends));
       }
-    where
-      reached : length (take at b ++ s) ≡ m
-      reached = rw (length-append (take at b) s, length-take-le at b h) (sym (p .ends))
-
-      far : at + length s + length t ≡ at + length (s ++ t)
-      far = rw (length-append s t) (omega arith)
-
-      front : take m c ≡ take at b ++ s
-      front = ap (take m) (p .holds) ∙ take-at (take at b ++ s) _ m reached
-
-      back : drop (m + length t) c ≡ drop (at + length (s ++ t)) b
-      back =
-          sym (drop-drop (length t) m c)
-          ∙ ap (drop (length t)) (ap (drop m) (p .holds) ∙ drop-at (take at b ++ s) _ m reached)
-          ∙ drop-drop (length t) (at + length s) b
-          ∙ ap (λ (k : ℕ). drop k b) far
 
 -- a word put byte by byte is put
 pub all-copied : (b : List ℕ) (at : ℕ) (s : List ℕ) (i : ℕ) → at + length s ≤ length b → i ≤ length s → length s ≤ i → TextPut b at s (put b at s i) (at + length s)

@@ -2,8 +2,8 @@
 use mathlib.Core.List.{List}
 use mathlib.Core.Path.{_≡_, refl, sym, ap, _∙_}
 use Prim.Native.Nat.{ℕ, zero, suc, _+_, _*_, _%_, _≤_, _<_, min}
-use native.Mathlib.Decide.{decLe, ℕ-discrete}
-use native.Mathlib.Nat.{le-antisymm, le-of-eq, mod-lt, mod-eq-of-lt, mod-add-mod, add-assoc, add-suc, add-zero, add-mul, suc-mul}
+use native.Mathlib.Decide.{ℕ-discrete}
+use native.Mathlib.Nat.{le-of-eq, mod-lt, mod-eq-of-lt, mod-add-mod, add-assoc, add-suc, add-zero, add-mul, suc-mul}
 use native.Mathlib.Numerals.{add-one}
 use native.Mathlib.Omega.{arith}
 use borrow.Author.Tests.{eq-eqb, ne-eqb}
@@ -11,7 +11,7 @@ use lib.ListN.{length, getD, set, length-take, length-set}
 use lib.Seq.{getD-take, getD-set-same, getD-set-other}
 use Rattle.theory.specs.Tasks.{Task, frame-count, frame, work}
 use Rattle.theory.specs.Analysis.{Higher, releases}
-use Rattle.theory.proofs.Laws.{work-zero, work-suc, work-add, work-mono, work-mod, releases-more}
+use Rattle.theory.proofs.Laws.{work-zero, work-suc, work-add, work-mono, work-mod, releases-more, releases-is}
 use Rattle.sheet.specs.Constants.{most-tasks, most-frames}
 use Rattle.sheet.specs.Tasks.{task-in, next-round}
 use Rattle.sheet.proofs.Rounds.{round-is}
@@ -110,27 +110,16 @@ module _ {T m : ℕ} {fs : List ℕ} {u₀ k₀ s₀ : ℕ} where
   sum-next : {u k s : ℕ} (w : More T m fs u₀ k₀ s₀ u k s) → s + getD fs k 0 ≡ s₀ + sum-from fs m k₀ (suc (w .j))
   sum-next w = rw (sum-suc fs m k₀ (w .j), ← w .next-is) (omega arith)
 
-  pub more-job : {u k s k′ v : ℕ} → More T m fs u₀ k₀ s₀ u k s → k < m → k′ ≡ next-round k m → v ≡ getD fs k 0 → More T m fs u₀ k₀ s₀ (u + T) k′ (s + v)
-  more-job {u} {k} {s} w l e q =
+  pub more-job : {u k s k′ : ℕ} → More T m fs u₀ k₀ s₀ u k s → k < m → k′ ≡ next-round k m → More T m fs u₀ k₀ s₀ (u + T) k′ (s + getD fs k 0)
+  more-job {u} {k} {s} w l e =
       record {
         j = suc (w .j);
         until-is = rw (suc-mul (w .j) T) (omega arith);
         next-is = rw (e, round-is k m l, w .next-is, ← add-one ((k₀ + w .j) % m), mod-add-mod, add-one (k₀ + w .j), add-suc k₀ (w .j));
-        sum-is = rw q (sum-next w);
+        sum-is = sum-next w;
       }
 
 -- ---- all jobs released before a time
-
-releases-is : {T : ℕ} (n x : ℕ) → 1 ≤ T → x ≤ n * T → n * T < x + T → releases x T ≡ n
-releases-is {T} n x h l u = le-antisymm (no-later (decLe (releases x T) n)) (no-sooner n u)
-  where
-    no-later : Dec (releases x T ≤ n) → releases x T ≤ n
-    no-later (yes k) = k
-    no-later (no k) = let z : ⊥ = omega (arith, releases-more n x h .0 (omega arith)) in absurd z
-
-    no-sooner : (n : ℕ) → n * T < x + T → n ≤ releases x T
-    no-sooner zero k = omega arith
-    no-sooner (suc p) k = releases-more p x h .1 (omega (arith, suc-mul p T))
 
 pub work-of-mono : (h : Higher) {a b : ℕ} → a ≤ b → work-of h a ≤ work-of h b
 unfolding work-of
@@ -161,7 +150,7 @@ module _ {h : Higher} {c : Counted} {total x deadline : ℕ} (ready : Advancing 
     all-jobs l v = record { no-more = le-of-eq same; all-counted = λ _. same; counts-on = λ _. counts }
       where
         all : releases x (h .task .period) ≡ jobs h c + w .j
-        all = releases-is (jobs h c + w .j) x (ready .counts .has-period) (omega (arith, until-all)) (omega (arith, until-all))
+        all = releases-is (ready .counts .has-period) (jobs h c + w .j) x (omega (arith, until-all)) (omega (arith, until-all))
 
         same : s + work-of h (jobs h c) ≡ total + work-of h (releases x (h .task .period))
         same = rw (all, work-more (w .j)) (omega (arith, w .sum-is))
@@ -178,9 +167,9 @@ module _ {h : Higher} {c : Counted} {total x deadline : ℕ} (ready : Advancing 
               next-is = rw (all, framed .many) (w .next-is ∙ ap (λ n. (n + w .j) % m) came ∙ mod-add-mod _ _ _ ∙ ap (λ n. n % m) (add-assoc _ _ _));
             }
 
-    pub over-deadline : {v : ℕ} → v ≡ getD fs k 0 → u < x → deadline < s + v
-        → Advanced h c total x deadline (record { counted = record { until = u; next = k }; total = s + v })
-    over-deadline {v} e l over =
+    pub over-deadline : u < x → deadline < s + getD fs k 0
+        → Advanced h c total x deadline (record { counted = record { until = u; next = k }; total = s + getD fs k 0 })
+    over-deadline l over =
         record {
           no-more = no-more;
           all-counted = λ e. let z : ⊥ = omega arith in absurd z;
@@ -190,5 +179,5 @@ module _ {h : Higher} {c : Counted} {total x deadline : ℕ} (ready : Advancing 
         one-more : jobs h c + suc (w .j) ≤ releases x (h .task .period)
         one-more = rw add-suc (releases-more (jobs h c + w .j) x (ready .counts .has-period) .1 (omega (arith, until-all)))
 
-        no-more : s + v + work-of h (jobs h c) ≤ total + work-of h (releases x (h .task .period))
+        no-more : s + getD fs k 0 + work-of h (jobs h c) ≤ total + work-of h (releases x (h .task .period))
         no-more = omega (arith, sum-next w, work-more (suc (w .j)), work-of-mono h one-more)

@@ -2,12 +2,12 @@
 use mathlib.Core.Path.{_≡_, refl, sym, _∙_}
 use Prim.Native.Nat.{ℕ, zero, suc, _+_, _≤_, _<_, _^_}
 use native.Mathlib.Decide.{decLe, ℕ-discrete}
-use native.Mathlib.Nat.{le-refl, le-antisymm, add-zero, div-zero, div-eq-of-lt, mul-div-cancel, zero-mul}
+use native.Mathlib.Nat.{le-refl, le-antisymm, add-zero, div-zero, mul-div-cancel, zero-mul}
 use native.Mathlib.Omega.{arith}
 use lib.ListN.{List·getD-eq-default}
 use Rattle.theory.specs.Tasks.{frame-count, frame}
 use Rattle.theory.specs.Analysis.{Higher, releases}
-use Rattle.theory.proofs.Laws.{work-zero, work-suc, releases-more, releases-mono}
+use Rattle.theory.proofs.Laws.{work-zero, work-suc, releases-more, releases-mono, releases-zero}
 use Rattle.response.specs.Inside.Counting.{work-of, Counts, jobs, nothing-counted, Advancing, Advanced}
 use Rattle.response.specs.declared.Counted.{Counted}
 use Rattle.response.specs.declared.Step.{Step}
@@ -43,10 +43,6 @@ releases-none : (T t : ℕ) → T ≡ 0 → releases t T ≡ 0
 unfolding releases
 releases-none T t e = rw (e, div-zero)
 
-releases-zero : (T : ℕ) → 1 ≤ T → releases 0 T ≡ 0
-unfolding releases
-releases-zero T h = div-eq-of-lt (omega arith)
-
 no-period-work : (h : Higher) → h .task .period ≡ 0 → (t : ℕ) → work-at h t ≡ 0
 unfolding work-at
 no-period-work h e t = rw (releases-none (h .task .period) t e) (work-of-zero h)
@@ -57,7 +53,7 @@ work-at-zero h = go (ℕ-discrete (h .task .period) 0)
   where
     go : Dec (h .task .period ≡ 0) → work-at h 0 ≡ 0
     go (yes e) = no-period-work h e 0
-    go (no n) = rw (releases-zero (h .task .period) (omega arith)) (work-of-zero h)
+    go (no n) = rw (releases-zero {T = h .task .period} (omega arith)) (work-of-zero h)
 
 -- ---- counting
 
@@ -74,8 +70,8 @@ up-to-begins h = go (ℕ-discrete (h .task .period) 0) (ℕ-discrete (frame-coun
         (record {
           has-period = omega arith;
           has-frame = omega arith;
-          until-is = rw (releases-zero (h .task .period) (omega arith)) (sym (zero-mul _));
-          next-is = rw (releases-zero (h .task .period) (omega arith), add-zero (h .start));
+          until-is = rw (releases-zero {T = h .task .period} (omega arith)) (sym (zero-mul _));
+          next-is = rw (releases-zero {T = h .task .period} (omega arith), add-zero (h .start));
         }))
 
 -- where no job is released between y and x the count stays

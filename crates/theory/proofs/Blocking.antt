@@ -3,14 +3,14 @@ use mathlib.Core.Bool.{Bool, true, false, _&&_, So, and-eq-true-iff, true≢fals
 use mathlib.Core.List.{List, [], _∷_, map}
 use mathlib.Core.Option.{none, some}
 use mathlib.Core.Path.{_≡_, sym, _∙_, ap}
-use Prim.Native.Nat.{ℕ, suc, _+_, _-_, _≤_, _<_}
+use Prim.Native.Nat.{ℕ, suc, _+_, _-_, _≤_, _<_, max}
 use native.Mathlib.Decide.{decLe}
 use native.Mathlib.Nat.{le-dest, le-antisymm}
 use native.Mathlib.Omega.{arith}
 use borrow.Author.Tests.{leb-true, le-leb}
 use lib.Dec.{leb}
 use lib.ListN.{length, getD, drop, length-drop, length-map, List·getD-map, drop-of-length-le}
-use lib.Seq.{getD-drop}
+use lib.Seq.{getD-drop, drop-cons}
 use Rattle.theory.specs.Tasks.{Task, task-at, largest}
 use Rattle.theory.specs.Analysis.{lower, largest-lock, blocking, blocker}
 use Rattle.theory.proofs.Places.{zeros}
@@ -119,6 +119,11 @@ module _ (set : List Task) (p : ℕ) where
       go : Answer (blocker set p) → blocker set p ≡ none
       go (nothing e) = e
       go (it-is c e) = let b : IsBlocker c = blocker-is e in let z : ⊥ = omega (arith, b .has-largest, b .locks) in absurd z
+
+  -- one task more from below
+  pub largest-lock-step : suc p < length set → largest-lock (lower set p) ≡ max (task-at set (suc p) .lock) (largest-lock (lower set (suc p)))
+  unfolding largest-lock lower task-at largest
+  largest-lock-step h = ap (λ ts. largest (map (λ t. t .lock) ts)) (drop-cons set (suc p) zeros h)
 
   pub largest-lock-last : length set ≤ suc p → largest-lock (lower set p) ≡ 0
   unfolding largest-lock lower largest

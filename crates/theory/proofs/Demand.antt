@@ -1,9 +1,9 @@
--- Laws of ⌈t/T⌉ and of the demand: monotone in t, in blocking, in frames and in the tasks above.
-use mathlib.Core.List.{List, [], _∷_}
-use mathlib.Core.Logic.{_↔_}
-use mathlib.Core.Path.{_≡_, refl, sym, ap}
+-- Laws of ⌈t/T⌉ and of the demand: monotone in t, in blocking, in frames and in the tasks above; the same in any order of those.
+use mathlib.Core.List.{List, [], _∷_, Perm, List·Permᴰ, List·Permᴰ·nil, List·Permᴰ·cons, List·Permᴰ·swap, List·Permᴰ·trans}
+use mathlib.Core.Logic.{_↔_, ∥∥₁-elim}
+use mathlib.Core.Path.{_≡_, refl, sym, _∙_, ap}
 use Prim.Native.Nat.{ℕ, zero, suc, _+_, _-_, _*_, _/_, _%_, _≤_, _<_}
-use native.Mathlib.Nat.{le-refl, le-trans, le-of-eq, add-le-add, le-add-left, le-antisymm, le-div-iff-mul-le, div-mul-le-self, div-zero, div-add-mod', mod-lt, zero-mul, suc-mul}
+use native.Mathlib.Nat.{ℕ-set, le-refl, le-trans, le-of-eq, add-le-add, le-add-left, le-antisymm, le-div-iff-mul-le, div-mul-le-self, div-zero, div-add-mod', mod-lt, zero-mul, suc-mul, add-left-comm}
 use native.Mathlib.Omega.{arith}
 use Rattle.theory.specs.Tasks.{work}
 use Rattle.theory.specs.Analysis.{Higher, releases, higher-work, demand}
@@ -29,7 +29,7 @@ releases-mono T h = div-mono T (omega arith)
 
 module _ {T : ℕ} (positive : 1 ≤ T) where
   -- ⌈t/T⌉ is the number of periods that t ticks just need
-  releases-is : (n t : ℕ) → t ≤ n * T → n * T < t + T → releases t T ≡ n
+  pub releases-is : (n t : ℕ) → t ≤ n * T → n * T < t + T → releases t T ≡ n
   releases-is n t enough just =
       let no-more : ¬ (n < releases t T) = λ l. omega (arith, releases-more n t positive .0 l) in
       le-antisymm (omega arith) (no-less n just)
@@ -89,6 +89,18 @@ higher-work-within (each {h = h} {g = g} a w) t = add-le-add
 pub demand-mono : {B B′ C C′ t u : ℕ} {hs gs : List Higher} → B ≤ B′ → C ≤ C′ → Within hs gs → t ≤ u → demand B C hs t ≤ demand B′ C′ gs u
 unfolding demand
 demand-mono {t = t} {gs = gs} b c w h = add-le-add (add-le-add b c) (le-trans (higher-work-within w t) (higher-work-mono gs h))
+
+-- it does not depend on the order of the tasks above
+higher-work-permᴰ : {hs gs : List Higher} → List·Permᴰ hs gs → (t : ℕ) → higher-work hs t ≡ higher-work gs t
+unfolding higher-work
+higher-work-permᴰ List·Permᴰ·nil t = refl
+higher-work-permᴰ (List·Permᴰ·cons {b = g} e d) t = rw (e, higher-work-permᴰ d t)
+higher-work-permᴰ (List·Permᴰ·swap {a′ = a} {b′ = b} e q) t = rw (e, q) (add-left-comm _ _ _)
+higher-work-permᴰ (List·Permᴰ·trans d e) t = higher-work-permᴰ d t ∙ higher-work-permᴰ e t
+
+pub demand-order : (B C : ℕ) {hs gs : List Higher} → Perm hs gs → (t : ℕ) → demand B C hs t ≡ demand B C gs t
+unfolding demand
+demand-order B C d t = ap (λ x. B + C + x) (∥∥₁-elim d (ℕ-set _ _) (λ e. higher-work-permᴰ e t))
 
 -- the demand is at least blocking plus the frame
 pub demand-least : (B C : ℕ) (hs : List Higher) (t : ℕ) → B + C ≤ demand B C hs t

@@ -19,6 +19,10 @@ unfoldable pub sum-below : ℕ → (ℕ → ℕ) → ℕ
 sum-below zero f = 0
 sum-below (suc n) f = sum-below n f + f n
 
+pub sum-zero : (f : ℕ → ℕ) → sum-below 0 f ≡ 0
+unfolding sum-below
+sum-zero f = refl
+
 pub sum-suc : (n : ℕ) (f : ℕ → ℕ) → sum-below (suc n) f ≡ sum-below n f + f n
 unfolding sum-below
 sum-suc n f = refl

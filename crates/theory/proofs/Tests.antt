@@ -17,7 +17,7 @@ use Rattle.theory.proofs.Work.{monotonic-test}
 
 -- ---- a test and what it tests
 
-is-and : {a b : Bool} {A B : Type 0} → So a ↔ A → So b ↔ B → So (a && b) ↔ (A × B)
+pub is-and : {a b : Bool} {A B : Type 0} → So a ↔ A → So b ↔ B → So (a && b) ↔ (A × B)
 is-and {a} {b} f g =
     (λ e. (f .0 (and-eq-true-iff a b .0 e .0), g .0 (and-eq-true-iff a b .0 e .1)), λ x. and-eq-true-iff a b .1 (f .1 (x .0), g .1 (x .1)))
 
@@ -25,7 +25,7 @@ is-every : (n : ℕ) {test : ℕ → Bool} {P : ℕ → Type 0} → ((u : ℕ) �
 is-every n {test} f =
     (λ e u h. f u .0 (every-at 0 n test e u (omega arith) (omega arith)), λ h. every-is 0 n test (λ u _ l. f u .1 (h u (omega arith))))
 
-is-leb : (a b : ℕ) → So (leb a b) ↔ (a ≤ b)
+pub is-leb : (a b : ℕ) → So (leb a b) ↔ (a ≤ b)
 is-leb a b = (leb-true a b, le-leb a b)
 
 is-ltb : (a b : ℕ) → So (ltb a b) ↔ (a < b)

@@ -6,7 +6,7 @@ use mathlib.Core.Option.{some}
 use mathlib.Core.Path.{_≡_, refl, sym, _∙_, ap}
 use Prim.Native.Nat.{ℕ, zero, suc, _+_, _*_, _%_, _≤_, _<_}
 use native.Mathlib.Decide.{decLe}
-use native.Mathlib.Nat.{add-zero, add-suc, add-assoc, add-comm, zero-mul, le-refl, le-trans, mod-mod, suc-mod, mod-lt, mod-add-mod, add-mod-right, mod-eq-of-lt, div-add-mod', le-max-left, le-max-right, max-eq-left, max-eq-right, max-zero, zero-add, le-dest, le-add-right, add-le-add, add-left-cancel}
+use native.Mathlib.Nat.{add-zero, add-suc, add-assoc, add-comm, zero-mul, le-refl, le-trans, le-antisymm, mod-mod, suc-mod, mod-lt, mod-add-mod, add-mod-right, mod-eq-of-lt, div-add-mod', le-max-left, le-max-right, max-eq-left, max-eq-right, max-zero, zero-add, le-dest, le-add-right, add-le-add, add-left-cancel}
 use native.Mathlib.Numerals.{add-one, one-add}
 use native.Mathlib.Omega.{arith}
 use borrow.Author.Tests.{leb-true, le-leb, eqb-true, eqb-false, eq-eqb}
@@ -133,6 +133,12 @@ module _ (t : Task) where
       not-above j e u q (no h) l = omega arith
       not-above j e u q (yes h) l = let (i, e′, l′) = found-below u h q in let same : j ≡ i = cc in omega arith
 
+  start-unique : {s u : ℕ} → IsStart s → IsStart u → s ≡ u
+  start-unique i j = le-antisymm (i .lowest _ (j .start-qualifies)) (j .lowest _ (i .start-qualifies))
+
+  pub start-when : {s : ℕ} → IsStart s → start-frame t ≡ s
+  start-when i = start-unique (start-is (record { start = _; start-in = i .start-in; start-qualifies = i .start-qualifies })) i
+
   -- accumulatively monotonic exactly if some frame qualifies
   pub monotonic-test : (found (first 0 (frame-count t) (qualifies t)) ≡ true) ↔ Monotonic t
   monotonic-test = (there, back)
@@ -200,6 +206,12 @@ module _ (t : Task) where
       less : (u : ℕ) → (frame t u ≡ largest (t .frames) → ⊥) → frame t u < largest (t .frames)
       less u ne = lt-of-le-ne (frame-le-largest u) ne
 
+  largest-not-less : {k u : ℕ} → IsLargest k → IsLargest u → k ≤ u
+  largest-not-less {k} {u} i j = let not-later : ¬ (u < k) = λ l. omega (arith, i .lowest u l, j .largest-time) in omega arith
+
+  pub largest-when : {k : ℕ} → IsLargest k → largest-frame t ≡ k
+  largest-when i = let f : IsLargest (largest-frame t) = largest-is (omega (arith, i .largest-in)) in le-antisymm (largest-not-less f i) (largest-not-less i f)
+
   -- every frame's time is at most that of the largest frame
   pub frame-le-largest-frame : 1 ≤ frame-count t → (k : ℕ) → frame t k ≤ frame t (largest-frame t)
   frame-le-largest-frame h k = rw (largest-is h .largest-time) (frame-le-largest k)
@@ -214,3 +226,9 @@ pub record IsShortest (t : Task) (d : ℕ) : Type 0 where
 pub shortest-is : (t : Task) → IsShortest t (shortest-deadline t)
 unfolding deadline-of shortest-deadline
 shortest-is t = record { no-longer = λ k h. le-refl _; of-a-frame = λ h. (0, h, refl) }
+
+-- ---- more in each frame is more work
+
+pub work-frames : (t u : Task) → ((k : ℕ) → frame t k ≤ frame u k) → (k n : ℕ) → work t k n ≤ work u k n
+work-frames t u h k zero = rw (work-zero t k, work-zero u k) (le-refl 0)
+work-frames t u h k (suc n) = rw (work-suc t k n, work-suc u k n) (add-le-add (work-frames t u h k n) (h (k + n)))

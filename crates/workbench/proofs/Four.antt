@@ -1,14 +1,15 @@
 -- A number in four bytes, and the four stores that put it.
 use mathlib.Core.List.{List, [], _∷_, _++_, append-nil, append-assoc}
-use mathlib.Core.Path.{_≡_, refl, sym, ap, _∙_}
+use mathlib.Core.Path.{_≡_, refl, sym, ap, ap₂, _∙_}
 use Prim.Native.Nat.{ℕ, zero, suc, _+_, _*_, _/_, _%_, _^_, _≤_, _<_}
 use native.Mathlib.Nat.{div-one, add-zero}
 use native.Mathlib.Numerals.{add-one, towards-suc}
 use native.Mathlib.Omega.{arith}
 use lib.Dec.{lit<}
 use lib.ListN.{length, getD, take, drop, set, length-append, length-take, length-drop, take-append-drop}
-use lib.Seq.{sets-eq, take-at, take-suc, take-all, drop-append-add, drop-drop}
+use lib.Seq.{sets-eq, take-suc, take-all, length-take-le}
 use Rattle.bits.specs.Packed.{digits, bytes-of}
+use Rattle.bits.proofs.Fields.{rows-behind}
 use Rattle.bits.proofs.Laws.{length-bytes}
 use Rattle.bits.proofs.Numbers.{byte-of}
 use Rattle.lent.specs.Lent.{laid}
@@ -42,11 +43,6 @@ put-four s at n h =
 
 -- ---- many numbers
 
-four-snoc : (xs : List ℕ) (x : ℕ) → four-bytes (xs ++ (x ∷ [])) ≡ four-bytes xs ++ bytes-of 4 (digits 32 x)
-unfolding four-bytes
-four-snoc [] x = append-nil (bytes-of 4 (digits 32 x))
-four-snoc (y ∷ xs) x = ap (λ (l : List ℕ). bytes-of 4 (digits 32 y) ++ l) (four-snoc xs x) ∙ sym (append-assoc (bytes-of 4 (digits 32 y)) (four-bytes xs) (bytes-of 4 (digits 32 x)))
-
 pub length-four : (xs : List ℕ) → length (four-bytes xs) ≡ 4 * length xs
 unfolding four-bytes
 length-four [] = refl
@@ -73,17 +69,15 @@ module _ (d : List ℕ) (at : ℕ) (xs : List ℕ) where
 
   pub fours-more : (i : ℕ) → i < length xs → at + 4 * (i + 1) ≤ length d
       → take (at + 4 * i) (fours i) ++ bytes-of 4 (digits 32 (getD xs i 0)) ++ drop (at + 4 * i + 4) (fours i) ≡ fours (i + 1)
-  unfolding fours
-  fours-more i h l = rw (take-at (take at d ++ four-bytes (take i xs)) (drop (at + 4 * i) d) (at + 4 * i) front, behind, add-one i, take-suc xs i 0 h, four-snoc (take i xs) (getD xs i 0)) (ap (λ (l : List ℕ). l ++ drop (at + 4 * suc i) d) (append-assoc (take at d) (four-bytes (take i xs)) (bytes-of 4 (digits 32 (getD xs i 0)))))
-    where
-      front : length (take at d ++ four-bytes (take i xs)) ≡ at + 4 * i
-      front = simp (length-append, length-four, length-take) (omega arith)
-
-      behind : drop (at + 4 * i + 4) (take at d ++ four-bytes (take i xs) ++ drop (at + 4 * i) d) ≡ drop (at + 4 * (suc i)) d
-      behind =
-          ap (λ (k : ℕ). drop (k + 4) (take at d ++ four-bytes (take i xs) ++ drop (at + 4 * i) d)) (sym front)
-          ∙ drop-append-add (take at d ++ four-bytes (take i xs)) (drop (at + 4 * i) d) 4
-          ∙ drop-drop 4 (at + 4 * i) d ∙ ap (λ (k : ℕ). drop k d) {x = at + 4 * i + 4} {y = at + 4 * suc i} (omega arith)
+  unfolding fours four-bytes
+  fours-more i h l =
+      let f = four-bytes (take i xs) in
+      let g = bytes-of 4 (digits 32 (getD xs i 0)) in
+      let long : length f ≡ 4 * i = length-four (take i xs) ∙ ap (λ (k : ℕ). 4 * k) (length-take-le i xs (omega arith)) in
+      let more : four-bytes (take (i + 1) xs) ≡ f ++ g = rw (add-one i, take-suc xs i 0 h, four-append (take i xs) (getD xs i 0 ∷ []), append-nil g) in
+      ap₂ (λ (j k : ℕ). let over = take at d ++ f ++ drop (at + j) d in take (at + j) over ++ g ++ drop (at + j + k) over) (sym long) (sym (length-bytes 4 (digits 32 (getD xs i 0))))
+      ∙ rows-behind at f g d (omega arith)
+      ∙ ap₂ (λ (l : List ℕ) (k : ℕ). take at d ++ l ++ drop (at + k) d) (sym more) (ap length (sym more) ∙ length-four (take (i + 1) xs) ∙ ap (λ (k : ℕ). 4 * k) (length-take-le (i + 1) xs (omega arith)))
 
   pub all-put : (i : ℕ) → i ≡ most-frames → length xs ≡ most-frames → fours i ≡ take at d ++ four-bytes xs ++ drop (at + task-size) d
   unfolding fours

@@ -1,5 +1,4 @@
 -- `advance` meets its contract: the jobs counted are as many more as periods have passed.
-use mathlib.Core.Path.{refl}
 use Prim.Native.Nat.{ℕ, suc, _+_, _-_, _≤_, _<_}
 use native.Mathlib.Nat.{mod-lt}
 use native.Mathlib.Omega.{arith}
@@ -66,7 +65,7 @@ loop-less c = omega arith
 
 loop-again : tie.Need-loop-again Inv-loop μ-loop
 loop-again c = (
-  more-job (c .before .before .before .loop .inv .0) (c .before .before .before .loop .inv .1) (c .next-frame .ensures) refl,
+  more-job (c .before .before .before .loop .inv .0) (c .before .before .before .loop .inv .1) (c .next-frame .ensures),
   rw (c .next-frame .ensures, round-is _ _ (c .before .before .before .loop .inv .1)) (mod-lt _ (omega arith)),
   omega arith,
   omega arith,
@@ -89,7 +88,6 @@ returns-2 c =
     (c .before .before .before .before .before .before .before .before .pre)
     (framed (c .before .before .before))
     (c .before .before .loop .inv .0)
-    refl
     (omega arith)
     (omega arith)
 
