@@ -1,6 +1,6 @@
 -- What is found of a set that is judged: the answer and, of a set that is admitted, the shape of each task's frames.
 use mathlib.Core.List.{List, [], _++_, map}
-use Prim.Native.Nat.{ℕ, _-_}
+use Prim.Native.Nat.{_-_}
 use lib.ListN.{length, replicate}
 use Rattle.theory.specs.Tasks.{Task, largest, start-frame}
 use Rattle.sheet.specs.Constants.{most-tasks}

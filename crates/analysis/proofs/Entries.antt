@@ -14,7 +14,7 @@ use Rattle.lent.proofs.Lent.{by-checks, done}
 use Rattle.sheet.specs.Constants.{most-tasks, most-frames}
 use Rattle.sheet.specs.Tasks.{task-in, records-of, set-with}
 use Rattle.sheet.specs.Admission.{decided, list-checks, admission}
-use Rattle.sheet.specs.Reading.{sheet-checks, policy-of, tasks-of, reading}
+use Rattle.sheet.specs.Reading.{sheet-checks, policy-of, tasks-of}
 use Rattle.sheet.specs.declared.TaskSet.{TaskSet}
 use Rattle.sheet.specs.declared.Reading.{Reading}
 use Rattle.sheet.specs.declared.Answer.{Answer}
@@ -28,7 +28,7 @@ use Rattle.sheet.proofs.Carried.{by-admission, by-reading, reading-answer, admi
 use Rattle.sheet.proofs.Analysable.{admitted-set-is-admitted}
 use Rattle.sheet.proofs.RoundTrip.{admitted-reading-admits}
 use Rattle.reader.specs.Sheets.{sheet-judged}
-use Rattle.admission.specs.Judged.{shape-of, shapes-of, turned-away, judged}
+use Rattle.admission.specs.Judged.{shapes-of, turned-away, judged}
 use Rattle.admission.specs.declared.Judged.{Judged}
 use Rattle.admission.specs.declared.Shape.{Shape}
 use Rattle.admission.proofs.Answers.{judged-tells}

@@ -241,13 +241,11 @@ pub fn miscounted(n: u32, most: u32) -> bool
 pub fn next_frame(k: usize, count: usize) -> usize
     ensures { λ r. ⌜ r ≡ next-round k count ⌝ }
 {
-    if count <= k {
-        return 0;
+    let next = std::num::wrapping_add_usize(k, 1);
+    if next < count {
+        return next;
     }
-    if count - k == 1 {
-        return 0;
-    }
-    k + 1
+    0
 }
 
 // The deadline of frame k.

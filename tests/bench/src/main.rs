@@ -78,7 +78,7 @@ fn main() {
     let sets: Vec<Set> = (0..2_000).map(|_| typical(&mut random)).collect();
     measure("typical: 1 to 6 tasks, 1 to 3 frames", &sets, 20, 7);
     let sets: Vec<Set> = (0..2_000).map(|_| generate::admitted_set(&mut random)).collect();
-    measure("any: 1 to 16 tasks, 1 to 8 frames", &sets, 1, 3);
+    measure("any: 1 to 16 tasks, 1 to 8 frames", &sets, 10, 5);
     let [missing, holding] = generate::costly_sets();
     measure("costliest to a miss", &[missing], 1, 2);
     measure("costliest to times, equal frames", &[holding], 1, 2);

@@ -1,6 +1,6 @@
 -- What the reader's parts answer, each over the bits that it looks at.
 use mathlib.Core.Bool.{Bool, not}
-use mathlib.Core.List.{List, [], _∷_, map}
+use mathlib.Core.List.{List, [], _∷_}
 use Prim.Native.Nat.{ℕ, _+_}
 use lib.Dec.{ltb, eqb}
 use lib.ListN.{length, replicate}
@@ -8,10 +8,10 @@ use Rattle.sheet.specs.Constants.{the-version, most-frames}
 use Rattle.records.specs.Rows.{total}
 use Rattle.records.specs.Faces.{ends, row-has-slots, taken-row}
 use Rattle.sheet.specs.Fields.{fixed-widths, frame-widths}
-use Rattle.sheet.specs.Tasks.{task-in, record-of, records-of, blank-record, set-with, blank-set}
+use Rattle.sheet.specs.Tasks.{record-of, blank-record, set-with, blank-set}
 use Rattle.sheet.specs.Layout.{header-in, behind-header, frame-count-in, record-width, task-at-start, tasks-in}
 use Rattle.lent.specs.Checks.{Check, _⇒_}
-use Rattle.sheet.specs.Admission.{decided, policy-check, task-count-check, frame-count-check, task-checks}
+use Rattle.sheet.specs.Admission.{decided, policy-check, task-count-check, frame-count-check}
 use Rattle.sheet.specs.Reading.{layout-checks}
 use Rattle.sheet.specs.declared.Answer.{Answer}
 use Rattle.sheet.specs.declared.Answer.the-variants.{Admitted, Refused}

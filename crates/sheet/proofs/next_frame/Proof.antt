@@ -1,26 +1,18 @@
 -- `next_frame` meets its contract.
-use mathlib.Core.Path.{sym, _∙_}
-use native.Mathlib.Numerals.{add-one}
 use native.Mathlib.Omega.{arith}
 use borrow.Author.Needs.{needs}
-use Rattle.sheet.proofs.Rounds.{round-on, round-ends}
+use Rattle.sheet.proofs.Rounds.{next-below, next-past}
 use Rattle.sheet.proofs.next_frame.Statement.{statement}
 use Rattle.sheet.proofs.next_frame.Tie as tie
 
-returns : tie.Need-returns
-returns c = sym (round-ends _ _ (omega arith))
+wrapping-add-usize-requires : tie.Need-wrapping-add-usize-requires
+wrapping-add-usize-requires c κs = search needs
 
-sub-if2 : tie.Need-sub-if2
-sub-if2 c = search needs
+returns : tie.Need-returns
+returns c = next-below _ _ _ (omega arith) (omega arith) (c .before .wrapping-add-usize .ensures) (c .if1 .taken)
 
 returns-2 : tie.Need-returns-2
-returns-2 c = sym (round-ends _ _ (omega arith))
-
-add-result : tie.Need-add-result
-add-result c = search needs
-
-returns-3 : tie.Need-returns-3
-returns-3 c = add-one _ ∙ sym (round-on _ _ (omega arith))
+returns-2 c = next-past _ _ _ (omega arith) (omega arith) (c .before .wrapping-add-usize .ensures) (c .if1 .left)
 
 pub next-frame-spec : {M : Type 1} → statement M
-next-frame-spec = tie.close (tie.spec returns sub-if2 returns-2 add-result returns-3)
+next-frame-spec = tie.close (tie.spec wrapping-add-usize-requires returns returns-2)
