@@ -27,7 +27,7 @@ use Rattle.admission.specs.declared.TaskAnswer.the-variants.{Shaped, Tur
 use Rattle.admission.specs.declared.Shape.{Shape}
 use Rattle.admission.specs.declared.Judged.{Judged}
 use Rattle.admission.specs.Start.{start-of}
-use Rattle.admission.specs.Judged.{shape-of, shapes-of, turned-away, judged}
+use Rattle.admission.specs.Judged.{shape-of, shapes-of, refused-judged, judged}
 use Rattle.admission.specs.Inside.Steps.{by-answer, task-answer}
 use Rattle.admission.proofs.Starts.{found-at, found-nowhere}
 use Rattle.admission.proofs.Remaining.{remaining, all-remain, one-remains, none-remain}
@@ -150,7 +150,7 @@ module _ (records : List Record) (count : ℕ) where
 -- ---- what was judged
 
 judged-answer : (a : Answer) (s : TaskSet) → judged a s .answer ≡ a
-unfolding judged turned-away
+unfolding judged refused-judged
 judged-answer Admitted s = refl
 judged-answer (Refused why) s = refl
 
@@ -159,7 +159,7 @@ pub judged-tells : (j : Judged) (a : Answer) (s : TaskSet) (b : Answer) → j �
 judged-tells j a s b e t = sym (ap (λ (x : Judged). x .answer) e ∙ judged-answer a s) ∙ t
 
 module _ (a : Answer) (s : TaskSet) where
-  pub judged-refused : (why : Refusal) → a ≡ Refused why → turned-away why ≡ judged a s
+  pub judged-refused : (why : Refusal) → a ≡ Refused why → refused-judged why ≡ judged a s
   unfolding judged
   judged-refused why e = rw e
 

@@ -50,8 +50,8 @@ fits-is t =
     )
 
 module _ (t : Task) where
-  pub turned-away : (Fits t → ⊥) → (in-range t && well-formed t) ≡ false
-  turned-away h = fails _ (λ e. h (fits-is t .0 e))
+  pub not-fitting : (Fits t → ⊥) → (in-range t && well-formed t) ≡ false
+  not-fitting h = fails _ (λ e. h (fits-is t .0 e))
 
   -- with the other numbers in order, the frames decide
   pub frames-decide : t .period ≤ greatest-time → t .deadline ≤ t .period → 1 ≤ t .deadline → t .lock ≤ greatest-time

@@ -1,3 +1,3 @@
--- The words of the private contracts.
+-- Definitions that only private contracts use.
 pub mod Frames
 pub mod Steps

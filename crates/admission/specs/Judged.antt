@@ -25,10 +25,10 @@ unfoldable pub shapes-of : List Task → List Shape
 shapes-of tasks = map shape-of tasks ++ replicate (most-tasks - length tasks) no-shape
 
 -- a refusal, and beside it a set with no task
-unfoldable pub turned-away : Refusal → Judged
-turned-away why = record { answer = Refused why; set = blank-set; shapes = shapes-of [] }
+unfoldable pub refused-judged : Refusal → Judged
+refused-judged why = record { answer = Refused why; set = blank-set; shapes = shapes-of [] }
 
 -- a set by the answer to it
 unfoldable pub judged : Answer → TaskSet → Judged
 judged Admitted s = record { answer = Admitted; set = s; shapes = shapes-of (map task-in (records-of s)) }
-judged (Refused why) s = turned-away why
+judged (Refused why) s = refused-judged why

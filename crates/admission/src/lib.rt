@@ -9,7 +9,7 @@ ghost use Rattle.sheet.specs.Constants.{most-frames};
 ghost use Rattle.sheet.specs.Tasks.{task-in, records-of};
 ghost use Rattle.sheet.specs.Admission.{decided, in-range, well-formed, task-checks, frame-count-checks, admission};
 ghost use Rattle.admission.specs.Start.{start-of};
-ghost use Rattle.admission.specs.Judged.{no-shape, turned-away, judged};
+ghost use Rattle.admission.specs.Judged.{no-shape, refused-judged, judged};
 ghost use Rattle.admission.specs.Inside.Frames.{of-frames, from-at-least, all-between};
 ghost use Rattle.admission.specs.Inside.Steps.{task-answer};
 use sheet::Answer;
@@ -199,9 +199,9 @@ fn task_answer(task: Task, number: u32) -> TaskAnswer
     }
 }
 
-// What is turned away.
+// A refusal; beside it a set with no task, and no shape.
 pub fn refused(why: Refusal) -> Judged
-    ensures { λ r. ⌜ r ≡ turned-away why ⌝ }
+    ensures { λ r. ⌜ r ≡ refused-judged why ⌝ }
 {
     Judged {
         answer: Answer::Refused(why),

@@ -28,7 +28,7 @@ use Rattle.sheet.proofs.Carried.{by-admission, by-reading, reading-answer, admi
 use Rattle.sheet.proofs.Analysable.{admitted-set-is-admitted}
 use Rattle.sheet.proofs.RoundTrip.{admitted-reading-admits}
 use Rattle.reader.specs.Sheets.{sheet-judged}
-use Rattle.admission.specs.Judged.{shapes-of, turned-away, judged}
+use Rattle.admission.specs.Judged.{shapes-of, refused-judged, judged}
 use Rattle.admission.specs.declared.Judged.{Judged}
 use Rattle.admission.specs.declared.Shape.{Shape}
 use Rattle.admission.proofs.Answers.{judged-tells}
@@ -40,7 +40,7 @@ use Rattle.order.proofs.Laws.{ordered-admitted, ordered-tasks, ordered-length, 
 use Rattle.analysis.specs.Times.{verdict-number, outcome-of, number-at, place-of, slots-of, slots-from, times-of}
 use Rattle.analysis.specs.Findings.{findings-of, finding-at, findings-from, past-end, finding-in, numbers-found, in-turn, times-by-number}
 use Rattle.analysis.specs.Answers.{refused-analysis, analysis-by, set-analysis, sheet-analysis, analysing, set-analysing, set-outcome, set-left, sheet-analysing, sheet-outcome, sheet-left}
-use Rattle.analysis.specs.Inside.Steps.{Analysable, Shaped, numbers-of}
+use Rattle.analysis.specs.Inside.Steps.{RightlyJudged, ShapesStand, numbers-of}
 use Rattle.analysis.specs.Inside.Numbered.{Numbered}
 use Rattle.analysis.specs.Inside.Delivery.{delivering, delivered-outcome, delivered}
 use Rattle.analysis.specs.declared.Outcome.{Outcome}
@@ -187,7 +187,7 @@ module _ (s : TaskSet) (room : length (s .tasks) ≡ most-tasks) (e : admission 
   in-tasks : (p : ℕ) → p < length (tasks-in-order (ordered s)) → p < length tasks
   in-tasks p h = omega (arith, ap length (ordered-tasks s), ordered-length (s .policy) tasks)
 
-  pub shaped : (shapes : List Shape) → shapes ≡ shapes-of tasks → Shaped (ordered s) shapes
+  pub shaped : (shapes : List Shape) → shapes ≡ shapes-of tasks → ShapesStand (ordered s) shapes
   unfolding shapes-of
   shaped shapes es =
       record {
@@ -208,10 +208,10 @@ module _ (s : TaskSet) (room : length (s .tasks) ≡ most-tasks) (e : admission 
 -- ---- a set that was judged
 
 module _ (j : Judged) (a : Answer) (s : TaskSet) (e : j ≡ judged a s) where
-  -- it can be analysed, if it is one of sixteen records that is admitted
-  pub analysable : (a ≡ Admitted → admission s ≡ Admitted) → Analysable j
+  -- it is rightly judged, if admission admits it where the answer does
+  pub rightly-judged : (a ≡ Admitted → admission s ≡ Admitted) → RightlyJudged j
   unfolding judged
-  analysable h =
+  rightly-judged h =
       record {
         admits = λ t. let x = judged-tells j a s Admitted e t in rw (e, x) (h x);
         shapes-are = λ t. rw (e, judged-tells j a s Admitted e t) refl;
@@ -219,7 +219,7 @@ module _ (j : Judged) (a : Answer) (s : TaskSet) (e : j ≡ judged a s) where
 
   -- and its analysis is that of the set
   pub of-judged : analysis-by (j .answer) (j .set .policy) (map task-in (records-of (j .set))) ≡ analysis-by a (s .policy) (map task-in (records-of s))
-  unfolding judged turned-away analysis-by
+  unfolding judged refused-judged analysis-by
   of-judged = rw e (go a)
     where
       go : (a : Answer) → analysis-by (judged a s .answer) (judged a s .set .policy) (map task-in (records-of (judged a s .set))) ≡ analysis-by a (s .policy) (map task-in (records-of s))
@@ -228,10 +228,10 @@ module _ (j : Judged) (a : Answer) (s : TaskSet) (e : j ≡ judged a s) where
 
 -- the set of an admitted sheet is admitted, and its analysis is the sheet's
 module _ (j : Judged) (s : List ℕ) (e : j ≡ sheet-judged s) where
-  pub sheet-admits : Analysable j
+  pub sheet-admits : RightlyJudged j
   unfolding sheet-judged
   sheet-admits =
-      analysable j _ _ e
+      rightly-judged j _ _ e
       (λ a. let r = reading-answer s ∙ a in ap (λ (x : Reading). admission (x .set)) (sym (admitted-reading s r)) ∙ admitted-reading-admits s r)
 
   pub of-sheet : analysis-by (j .answer) (j .set .policy) (map task-in (records-of (j .set))) ≡ sheet-analysis s

@@ -19,7 +19,7 @@ use Rattle.response.specs.declared.Above.{Above}
 use Rattle.response.specs.declared.Higher.{Higher as HigherRecord}
 use Rattle.analysis.specs.Times.{number-at}
 use Rattle.analysis.specs.Findings.{no-finding, findings-from, findings-of}
-use Rattle.analysis.specs.Inside.Steps.{Shaped, numbers-of, finding-to}
+use Rattle.analysis.specs.Inside.Steps.{ShapesStand, numbers-of, finding-to}
 use Rattle.analysis.specs.declared.Finding.{Finding}
 use Rattle.sheet.proofs.Filled.{filled, none-filled, filled-more, all-filled}
 use Rattle.analysis.proofs.ByPlace.{finding-is-at, length-findings, finding-first}
@@ -55,7 +55,7 @@ above-more set above p r s ec hr hs ea et es =
     last : _≡_ {A = Higher} (record { task = task-in r; start = s }) (record { task = task-at set p; start = start-frame (task-at set p) })
     last = rw (es, et)
 
-module _ (o : Ordered) (shapes : List Shape) (shaped : Shaped o shapes) (few : length (tasks-in-order o) ≤ most-tasks) where
+module _ (o : Ordered) (shapes : List Shape) (shaped : ShapesStand o shapes) (few : length (tasks-in-order o) ≤ most-tasks) where
   abbrev all : List Finding
   all = findings-from (numbers-of o) (tasks-in-order o) 0 (length (tasks-in-order o))
 

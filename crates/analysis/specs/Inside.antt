@@ -1,4 +1,4 @@
--- What the functions below the public ones hand on and promise.
+-- Definitions that only private contracts use.
 pub mod Steps
 pub mod Numbered
 pub mod Delivery

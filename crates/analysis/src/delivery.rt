@@ -11,15 +11,12 @@ use crate::Outcome;
 use sheet::Refusal;
 use sheet::Sheet;
 
-// How many slots a task has for its times.
-const WIDTH: usize = Sheet::FRAME_ROOM;
-
 // The times of one task put over those that stand from `at` on.
 fn put_times(times: &mut [u32], at: usize, row: [u32; Sheet::FRAME_ROOM])
     requires { ⌜ at + most-frames ≤ length (now times) ⌝ }
     ensures { λ _. ⌜ now (times .exit) ≡ take at (now (times .entry)) ++ row ++ drop (at + most-frames) (now (times .entry)) ⌝ }
 {
-    for k in 0..WIDTH {
+    for k in 0..Sheet::FRAME_ROOM {
         times[at + k] = row[k];
     }
 }
@@ -30,14 +27,14 @@ pub fn deliver(a: Analysis, times: &mut [u32]) -> Outcome
     ensures { λ r. ⌜ (r ≡ delivered-outcome a (now (times .entry))) × (now (times .exit) ≡ delivered a (now (times .entry))) ⌝ }
 {
     let count = a.task_count as usize;
-    if times.len() < WIDTH * count {
+    if times.len() < Sheet::FRAME_ROOM * count {
         return Outcome::Refused(Refusal::Room);
     }
     for p in 0..count {
         let f = a.findings[p];
         let number = f.number as usize;
         let row = f.times;
-        put_times(times, WIDTH * number, row);
+        put_times(times, Sheet::FRAME_ROOM * number, row);
     }
     a.outcome
 }

@@ -8,7 +8,7 @@ ghost use Rattle.order.specs.Ordered.{tasks-in-order};
 ghost use Rattle.response.specs.Response.{response-to};
 ghost use Rattle.analysis.specs.Times.{slots-by};
 ghost use Rattle.analysis.specs.Findings.{findings-of};
-ghost use Rattle.analysis.specs.Inside.Steps.{Shaped, numbers-of, as-written, times-to, finding-with, finding-to};
+ghost use Rattle.analysis.specs.Inside.Steps.{ShapesStand, numbers-of, as-written, times-to, finding-with, finding-to};
 use crate::Finding;
 use admission::Shape;
 use order::Ordered;
@@ -97,7 +97,7 @@ fn finding_of(above: Above, number: u32, blocked: u32, task: Task, shape: Shape)
 
 // What is found of all places; the tasks above grow from place to place.
 pub fn findings_of(o: Ordered, shapes: [Shape; Sheet::TASK_ROOM]) -> [Finding; Sheet::TASK_ROOM]
-    requires { ⌜ Shaped o shapes ⌝ }
+    requires { ⌜ ShapesStand o shapes ⌝ }
     ensures { λ r. ⌜ r ≡ findings-of (numbers-of o) (tasks-in-order o) ⌝ }
 {
     let tasks = o.tasks;

@@ -7,7 +7,7 @@ ghost use Rattle.sheet.specs.declared.Answer.the-variants.{Admitted};
 ghost use Rattle.admission.specs.Judged.{shapes-of};
 ghost use Rattle.analysis.specs.Findings.{no-finding};
 ghost use Rattle.analysis.specs.Answers.{blocker-code, code, refused-analysis, analysis-by, set-analysis, sheet-analysis, set-outcome, set-left, sheet-outcome, sheet-left};
-ghost use Rattle.analysis.specs.Inside.Steps.{Analysable};
+ghost use Rattle.analysis.specs.Inside.Steps.{RightlyJudged};
 
 mod delivery;
 mod findings;
@@ -125,7 +125,7 @@ fn analysed(set: TaskSet, shapes: [Shape; Sheet::TASK_ROOM]) -> Analysis
 
 // The analysis of a set that was judged.
 fn analysis_of(judged: Judged) -> Analysis
-    requires { ⌜ Analysable judged ⌝ }
+    requires { ⌜ RightlyJudged judged ⌝ }
     ensures { λ r. ⌜ r ≡ analysis-by (judged .answer) (judged .set .policy) (map task-in (records-of (judged .set))) ⌝ }
 {
     let answer = judged.answer;

@@ -1,2 +1,2 @@
--- The words of the private contracts.
+-- Definitions that only private contracts use.
 pub mod Register

@@ -17,7 +17,7 @@ use Rattle.lent.proofs.Lent.{by-checks, by-room, done, TurnedAway, Done}
 use Rattle.sheet.specs.Constants.{most-tasks}
 use Rattle.sheet.specs.Tasks.{task-in, record-of, records-of, blank-record, set-with, blank-set}
 use Rattle.sheet.specs.Admission.{miscounted, known-policy, decided, list-checks, policy-check, task-count-check}
-use Rattle.sheet.specs.Reading.{sheet-checks, policy-of, tasks-of, reading, reading-by}
+use Rattle.sheet.specs.Reading.{sheet-checks, policy-of, tasks-of, refused-reading, reading-of, reading}
 use Rattle.sheet.specs.Writing.{sheet-of, sheet-bytes, writing, written, left}
 use Rattle.sheet.specs.declared.Answer.{Answer}
 use Rattle.sheet.specs.declared.Answer.the-variants.{Admitted, Refused}
@@ -130,13 +130,13 @@ module _ (policy : ℕ) (list : List Task) (room : List ℕ) where
 
 module _ (s : List ℕ) (list : List Task) where
   abbrev Reads : Answer → Type 0
-  Reads a = (read-answer (reading-by a s) (length list) ≡ list-read s list) × (scattered-of (reading-by a s .set) list ≡ list-filled s list)
+  Reads a = (read-answer (reading-of a (set-with (policy-of s) (tasks-of s))) (length list) ≡ list-read s list) × (scattered-of (reading-of a (set-with (policy-of s) (tasks-of s)) .set) list ≡ list-filled s list)
 
   refused-so : (r : Refusal) → decided (sheet-checks s) ≡ Refused r → Reads (Refused r)
-  unfolding list-read list-filled reading-list reading-by blank-set set-with records-of laid
+  unfolding list-read list-filled reading-list reading-of refused-reading blank-set set-with records-of laid
   refused-so r e =
       let t : TurnedAway Room not-read (reading-list s) list r = by-checks Room not-read (reading-list s) list r (one-applies (sheet-checks s) r e) in
-      (sym (reading-refused (reading-by (Refused r) s) (length list) r refl) ∙ sym (t .answer), scattered-all blank-set list (length-replicate most-tasks blank-record) zero-le zero-le ∙ sym (t .unchanged))
+      (sym (reading-refused (reading-of (Refused r) (set-with (policy-of s) (tasks-of s))) (length list) r refl) ∙ sym (t .answer), scattered-all blank-set list (length-replicate most-tasks blank-record) zero-le zero-le ∙ sym (t .unchanged))
 
   module _ (e : decided (sheet-checks s) ≡ Admitted) where
     few : length (tasks-of s) ≤ most-tasks
@@ -153,16 +153,16 @@ module _ (s : List ℕ) (list : List Task) where
     same-length = length-map (tasks-of s) record-of
 
     short : length list < length (tasks-of s) → Reads Admitted
-    unfolding list-read list-filled reading-list reading-by set-with
+    unfolding list-read list-filled reading-list reading-of refused-reading set-with
     short h =
         let t : TurnedAway Room not-read (reading-list s) list Room = by-room Room not-read (reading-list s) list (none-applies (sheet-checks s) e) (rw same-length h) in
-        (sym (list-short (reading-by Admitted s) (length list) refl h) ∙ sym (t .answer), scattered-short set list sixteen few h ∙ sym (t .unchanged))
+        (sym (list-short (reading-of Admitted (set-with (policy-of s) (tasks-of s))) (length list) refl h) ∙ sym (t .answer), scattered-short set list sixteen few h ∙ sym (t .unchanged))
 
     long : length (tasks-of s) ≤ length list → Reads Admitted
-    unfolding list-read list-filled reading-list reading-by set-with
+    unfolding list-read list-filled reading-list reading-of refused-reading set-with
     long h =
         let d : Done Room not-read (reading-list s) list = done Room not-read (reading-list s) list (none-applies (sheet-checks s) e) (rw same-length h) in (
-          sym (list-long (reading-by Admitted s) (length list) refl h) ∙ sym (d .answer),
+          sym (list-long (reading-of Admitted (set-with (policy-of s) (tasks-of s))) (length list) refl h) ∙ sym (d .answer),
           scattered-all set list sixteen few h ∙ ap (λ (records : List Task). laid records list) (records-with (policy-of s) (tasks-of s)) ∙ sym (d .holds),
         )
 

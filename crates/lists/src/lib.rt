@@ -25,6 +25,7 @@ const TOO_MANY: usize = Sheet::TASK_ROOM + 1;
 fn opened(policy: u32, n: usize) -> TaskSet
     ensures { λ r. ⌜ r ≡ opened-of policy n ⌝ }
 {
+    // a list that is too long counts as seventeen
     let count = sheet::in_use(n, TOO_MANY) as u32;
     TaskSet {
         policy: policy,

@@ -1,3 +1,3 @@
--- What the functions below the public ones promise.
+-- Definitions that only private contracts use.
 pub mod Keys
 pub mod Below

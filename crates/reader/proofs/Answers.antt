@@ -26,7 +26,7 @@ use Rattle.sheet.specs.Fields.{fixed-widths, period-field, deadline-field, lock
 use Rattle.sheet.specs.Tasks.{record-of}
 use Rattle.sheet.specs.Layout.{header-in, behind-header, frame-count-in, record-width, task-at-start}
 use Rattle.sheet.specs.Admission.{decided, known-policy, miscounted, policy-check, task-count-check, frame-count-check}
-use Rattle.sheet.specs.Reading.{layout-checks}
+use Rattle.sheet.specs.Reading.{layout-checks, refused-reading, reading-of}
 use Rattle.sheet.proofs.Checks.{applies, passed-over, no-check}
 use Rattle.sheet.proofs.Counts.{count-passed}
 use Rattle.sheet.proofs.Lawful.{header-lawful, fixed-lawful, frames-lawful, some-header, some-fixed}
@@ -34,7 +34,7 @@ use Rattle.sheet.specs.declared.Answer.{Answer}
 use Rattle.sheet.specs.declared.Answer.the-variants.{Admitted, Refused}
 use Rattle.sheet.specs.declared.Refusal.{Refusal}
 use Rattle.sheet.specs.declared.Refusal.the-variants.{Version, Policy, BitSet, TaskCount, FrameCount, Records}
-use Rattle.reader.specs.Inside.Parts.{turned-away, reading-of, frame-times-at, record-checks, nothing-found, found-by, found-at, records-reading, body-checks, set-in, body-reading}
+use Rattle.reader.specs.Inside.Parts.{frame-times-at, record-checks, nothing-found, found-by, found-at, records-reading, body-checks, set-in, body-reading}
 use Rattle.reader.specs.declared.Found.{Found}
 use Rattle.reader.specs.declared.Times.{Times}
 
@@ -236,7 +236,7 @@ module _ (bs : List Bool) where
   from-policy : List (Check Refusal)
   from-policy = policy-check (header-in bs .policy) ∷ from-spare
 
-  body-refused : (why : Refusal) → decided (body-checks bs) ≡ Refused why → turned-away why ≡ body-reading bs
+  body-refused : (why : Refusal) → decided (body-checks bs) ≡ Refused why → refused-reading why ≡ body-reading bs
   unfolding body-reading reading-of
   body-refused why e = sym (ap (λ (a : Answer). reading-of a (set-in bs)) e)
 
@@ -281,7 +281,7 @@ module _ (s : List ℕ) (small : length s ≤ greatest-size) (long : total heade
     unfolding header-in
     spare-is = ap (λ (ns : List ℕ). getD ns spare-field 0) numbers-are-header
 
-    pub version-wrong : (getD numbers version-field 0 ≡ the-version → ⊥) → turned-away Version ≡ body-reading (bits-of s)
+    pub version-wrong : (getD numbers version-field 0 ≡ the-version → ⊥) → refused-reading Version ≡ body-reading (bits-of s)
     unfolding body-checks
     version-wrong f = body-refused (bits-of s) Version (applies _ Version _ (ap not (ne-eqb _ the-version (λ e. f (version-is ∙ e)))))
 
@@ -290,7 +290,7 @@ module _ (s : List ℕ) (small : length s ≤ greatest-size) (long : total heade
       unfolding body-checks from-policy from-spare from-task-count from-records
       to-policy = passed-over _ Version _ (ap not (eq-eqb _ the-version (sym version-is ∙ v)))
 
-      pub policy-wrong : known-policy (getD numbers policy-field 0) ≡ false → turned-away Policy ≡ body-reading (bits-of s)
+      pub policy-wrong : known-policy (getD numbers policy-field 0) ≡ false → refused-reading Policy ≡ body-reading (bits-of s)
       unfolding from-policy policy-check
       policy-wrong e = body-refused (bits-of s) Policy (to-policy ∙ applies _ Policy _ (ap (λ (p : ℕ). not (known-policy p)) (sym policy-is) ∙ ap not e))
 
@@ -299,7 +299,7 @@ module _ (s : List ℕ) (small : length s ≤ greatest-size) (long : total heade
         unfolding from-policy policy-check
         to-spare = to-policy ∙ passed-over _ Policy _ (ap (λ (p : ℕ). not (known-policy p)) (sym policy-is) ∙ ap not p)
 
-        pub spare-set : (getD numbers spare-field 0 ≡ 0 → ⊥) → turned-away BitSet ≡ body-reading (bits-of s)
+        pub spare-set : (getD numbers spare-field 0 ≡ 0 → ⊥) → refused-reading BitSet ≡ body-reading (bits-of s)
         unfolding from-spare
         spare-set f = body-refused (bits-of s) BitSet (to-spare ∙ applies _ BitSet _ (ap not (ne-eqb _ 0 (λ e. f (spare-is ∙ e)))))
 
@@ -308,7 +308,7 @@ module _ (s : List ℕ) (small : length s ≤ greatest-size) (long : total heade
           unfolding from-spare
           to-task-count = to-spare ∙ passed-over _ BitSet _ (ap not (eq-eqb _ 0 (sym spare-is ∙ z)))
 
-          pub task-count-wrong : miscounted (getD numbers task-count-field 0) most-tasks ≡ true → turned-away TaskCount ≡ body-reading (bits-of s)
+          pub task-count-wrong : miscounted (getD numbers task-count-field 0) most-tasks ≡ true → refused-reading TaskCount ≡ body-reading (bits-of s)
           unfolding from-task-count task-count-check
           task-count-wrong f =
               body-refused (bits-of s) TaskCount (to-task-count ∙ applies _ TaskCount _ (ap (λ (n : ℕ). miscounted n most-tasks) (sym task-count-is) ∙ f))

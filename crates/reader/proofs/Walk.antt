@@ -13,7 +13,7 @@ use Rattle.sheet.specs.Tasks.{record-of, blank-record, set-with}
 use Rattle.sheet.specs.Layout.{record-width, task-at-start, tasks-in}
 use Rattle.lent.specs.Checks.{Check}
 use Rattle.sheet.specs.Admission.{decided}
-use Rattle.sheet.specs.Reading.{layout-checks}
+use Rattle.sheet.specs.Reading.{layout-checks, refused-reading, reading-of}
 use Rattle.sheet.proofs.Checks.{admitted-first, refused-first}
 use Rattle.sheet.proofs.RecordBits.{length-tasks-in}
 use Rattle.sheet.specs.declared.Answer.{Answer}
@@ -22,7 +22,7 @@ use Rattle.sheet.specs.declared.Reading.{Reading}
 use Rattle.sheet.specs.declared.Refusal.{Refusal}
 use Rattle.sheet.specs.declared.TaskSet.{TaskSet}
 use Rattle.sheet.specs.declared.Task.{Task as Record}
-use Rattle.reader.specs.Inside.Parts.{turned-away, reading-of, record-checks, nothing-found, found-by, found-at, records-reading}
+use Rattle.reader.specs.Inside.Parts.{record-checks, nothing-found, found-by, found-at, records-reading}
 use Rattle.reader.specs.declared.Found.{Found}
 use Rattle.reader.proofs.Slots.{put-next, map-snoc}
 
@@ -102,7 +102,7 @@ module _ (s : List ℕ) (start n i at : ℕ) (tasks : List Record) (w : Walked s
     unfolding found-at
     answer-is = ap (λ (x : Found). x .answer) e ∙ found-answer _ at (drop at (bits-of s))
 
-    pub walk-ends : (policy : ℕ) (why : Refusal) → f .answer ≡ Refused why → turned-away why ≡ records-reading policy n all
+    pub walk-ends : (policy : ℕ) (why : Refusal) → f .answer ≡ Refused why → refused-reading why ≡ records-reading policy n all
     unfolding records-reading reading-of
     walk-ends policy why r =
         sym (ap (λ (a : Answer). reading-of a (set-with policy (tasks-in n all)))
@@ -146,7 +146,7 @@ module _ (s : List ℕ) (start n i at : ℕ) (tasks : List Record) (w : Walked s
         let none-left : 0 ≡ n - i = omega arith in
         e ∙ ap (λ (m : ℕ). decided (layout-checks i m (drop at (bits-of s)))) none-left ∙ w .same
 
-    pub fill-refused : (policy : ℕ) (why : Refusal) → a ≡ Refused why → turned-away why ≡ records-reading policy n all
+    pub fill-refused : (policy : ℕ) (why : Refusal) → a ≡ Refused why → refused-reading why ≡ records-reading policy n all
     unfolding records-reading reading-of
     fill-refused policy why r =
         ap (λ (x : Answer). reading-of x (set-with policy (tasks-in n all))) (sym r ∙ last)

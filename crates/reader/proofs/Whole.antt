@@ -12,7 +12,7 @@ use Rattle.sheet.specs.Constants.{least-size, greatest-size}
 use Rattle.sheet.specs.Tasks.{task-in, records-of, set-with}
 use Rattle.sheet.specs.Layout.{header-in, behind-header, tasks-in}
 use Rattle.sheet.specs.Admission.{decided, task-checks}
-use Rattle.sheet.specs.Reading.{sheet-checks, policy-of, tasks-of, reading-by, reading}
+use Rattle.sheet.specs.Reading.{sheet-checks, policy-of, tasks-of, reading, refused-reading, reading-of}
 use Rattle.sheet.proofs.Checks.{applies, passed-over, and-then, decided-append}
 use Rattle.sheet.proofs.Records.{tasks-with}
 use Rattle.sheet.specs.declared.Answer.{Answer}
@@ -21,14 +21,13 @@ use Rattle.sheet.specs.declared.Reading.{Reading}
 use Rattle.sheet.specs.declared.Refusal.{Refusal}
 use Rattle.sheet.specs.declared.Refusal.the-variants.{Length, CheckWord}
 use Rattle.sheet.specs.declared.TaskSet.{TaskSet}
-use Rattle.admission.specs.Judged.{judged}
-use Rattle.admission.specs.Judged.{turned-away as refusing}
+use Rattle.admission.specs.Judged.{refused-judged, judged}
 use Rattle.admission.specs.declared.Judged.{Judged}
 use Rattle.reader.specs.Sheets.{sheet-judged}
-use Rattle.reader.specs.Inside.Parts.{turned-away, reading-of, body-checks, set-in, body-reading}
+use Rattle.reader.specs.Inside.Parts.{body-checks, set-in, body-reading}
 
 answer-of : (a : Answer) (s : TaskSet) → reading-of a s .answer ≡ a
-unfolding reading-of turned-away
+unfolding reading-of refused-reading
 answer-of Admitted s = refl
 answer-of (Refused why) s = refl
 
@@ -37,16 +36,16 @@ module _ (s : List ℕ) where
   unfolding sheet-judged set-in policy-of tasks-of
   judged-is a e = ap (λ (x : Answer). judged x (set-in (bits-of (body s)))) (sym e)
 
-  sheet-refused : (why : Refusal) → decided (sheet-checks s) ≡ Refused why → refusing why ≡ sheet-judged s
+  sheet-refused : (why : Refusal) → decided (sheet-checks s) ≡ Refused why → refused-judged why ≡ sheet-judged s
   unfolding judged
   sheet-refused why = judged-is (Refused why)
 
-  pub too-short : length s < least-size → refusing Length ≡ sheet-judged s
+  pub too-short : length s < least-size → refused-judged Length ≡ sheet-judged s
   unfolding sheet-checks
   too-short h = sheet-refused Length (applies _ Length _ (rw (lt-leb least-size (length s) h)))
 
   module _ (low : least-size ≤ length s) where
-    pub too-long : greatest-size < length s → refusing Length ≡ sheet-judged s
+    pub too-long : greatest-size < length s → refused-judged Length ≡ sheet-judged s
     unfolding sheet-checks
     too-long h = sheet-refused Length (applies _ Length _ (rw (le-leb least-size (length s) low, lt-leb (length s) greatest-size h)))
 
@@ -54,7 +53,7 @@ module _ (s : List ℕ) where
       size-right : not (leb least-size (length s) && leb (length s) greatest-size) ≡ false
       size-right = rw (le-leb least-size (length s) low, le-leb (length s) greatest-size high)
 
-      pub seal-wrong : sealed s ≡ false → refusing CheckWord ≡ sheet-judged s
+      pub seal-wrong : sealed s ≡ false → refused-judged CheckWord ≡ sheet-judged s
       unfolding sheet-checks
       seal-wrong e = sheet-refused CheckWord (passed-over _ Length _ size-right ∙ applies _ CheckWord _ (ap not e))
 
@@ -81,7 +80,7 @@ module _ (s : List ℕ) where
           by-body = both ∙ ap (λ (x : Answer). and-then x on-tasks) body-answer
 
         -- a refusal before the tasks are looked at
-        pub body-decides : (why : Refusal) → r .answer ≡ Refused why → refusing why ≡ sheet-judged s
+        pub body-decides : (why : Refusal) → r .answer ≡ Refused why → refused-judged why ≡ sheet-judged s
         body-decides why ea = sheet-refused why (by-body (Refused why) ea)
 
         -- the set whose tasks are looked at
@@ -96,9 +95,9 @@ module _ (s : List ℕ) where
 
 -- what is read is what is judged, without the shapes
 pub reading-judged : (s : List ℕ) → _≡_ {A = Reading} (record { answer = sheet-judged s .answer; set = sheet-judged s .set }) (reading s)
-unfolding sheet-judged reading judged refusing reading-by
+unfolding sheet-judged reading judged refused-judged reading-of refused-reading
 reading-judged s = go (decided (sheet-checks s))
   where
-    go : (a : Answer) → _≡_ {A = Reading} (record { answer = judged a (set-with (policy-of s) (tasks-of s)) .answer; set = judged a (set-with (policy-of s) (tasks-of s)) .set }) (reading-by a s)
+    go : (a : Answer) → _≡_ {A = Reading} (record { answer = judged a (set-with (policy-of s) (tasks-of s)) .answer; set = judged a (set-with (policy-of s) (tasks-of s)) .set }) (reading-of a (set-with (policy-of s) (tasks-of s)))
     go Admitted = refl
     go (Refused why) = refl

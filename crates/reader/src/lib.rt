@@ -7,9 +7,9 @@ ghost use Rattle.records.specs.Rows.{total};
 ghost use Rattle.sheet.specs.Constants.{most-tasks, most-frames, greatest-size};
 ghost use Rattle.sheet.specs.Fields.{header-widths};
 ghost use Rattle.sheet.specs.Admission.{decided};
-ghost use Rattle.sheet.specs.Reading.{layout-checks, reading};
+ghost use Rattle.sheet.specs.Reading.{layout-checks, reading, refused-reading};
 ghost use Rattle.reader.specs.Sheets.{sheet-judged};
-ghost use Rattle.reader.specs.Inside.Parts.{turned-away, frame-times-at, found-at, nothing-found, records-reading, body-reading};
+ghost use Rattle.reader.specs.Inside.Parts.{frame-times-at, found-at, nothing-found, records-reading, body-reading};
 use admission::Judged;
 use records::Rest;
 use records::Row;
@@ -28,7 +28,7 @@ struct Found {
 }
 
 fn refused(why: Refusal) -> Reading
-    ensures { λ r. ⌜ r ≡ turned-away why ⌝ }
+    ensures { λ r. ⌜ r ≡ refused-reading why ⌝ }
 {
     Reading {
         answer: Answer::Refused(why),

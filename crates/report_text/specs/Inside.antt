@@ -1,3 +1,3 @@
--- What the functions below `report_text` promise.
+-- Definitions that only private contracts use.
 pub mod TextPut
 pub mod Lines

@@ -1,2 +1,2 @@
--- What the functions below `respond` promise.
+-- Definitions that only private contracts use.
 pub mod Counting

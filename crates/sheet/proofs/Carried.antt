@@ -14,7 +14,7 @@ use Rattle.sheet.specs.Constants.{the-version, most-tasks, most-frames, 
 use Rattle.sheet.specs.Tasks.{task-in, record-of, records-of, set-with}
 use Rattle.sheet.specs.Layout.{header-in, behind-header}
 use Rattle.sheet.specs.Admission.{decided, known-policy, policy-check, task-count-check, frame-count-check, task-checks, frame-count-checks, list-checks, admission}
-use Rattle.sheet.specs.Reading.{layout-checks, sheet-checks, policy-of, tasks-of, reading-by, reading}
+use Rattle.sheet.specs.Reading.{layout-checks, sheet-checks, policy-of, tasks-of, refused-reading, reading-of, reading}
 use Rattle.sheet.specs.declared.Task.{Task as Record}
 use Rattle.sheet.specs.declared.TaskSet.{TaskSet}
 use Rattle.sheet.specs.declared.Answer.{Answer}
@@ -125,10 +125,10 @@ pub record PassedSheet (s : List ℕ) : Type 0 where
   pub formed : decided (task-checks 0 (tasks-of s)) ≡ Admitted
 
 pub reading-answer : (s : List ℕ) → reading s .answer ≡ decided (sheet-checks s)
-unfolding reading reading-by
+unfolding reading reading-of refused-reading
 reading-answer s = go (decided (sheet-checks s))
   where
-    go : (a : Answer) → reading-by a s .answer ≡ a
+    go : (a : Answer) → reading-of a (set-with (policy-of s) (tasks-of s)) .answer ≡ a
     go Admitted = refl
     go (Refused r) = refl
 
@@ -174,5 +174,5 @@ by-reading s a =
 
 -- an admitted sheet's reading is what it carries
 pub admitted-reading : (s : List ℕ) → reading s .answer ≡ Admitted → reading s ≡ record { answer = Admitted; set = set-with (policy-of s) (tasks-of s) }
-unfolding reading reading-by
-admitted-reading s a = ap (λ (x : Answer). reading-by x s) (sym (reading-answer s) ∙ a)
+unfolding reading reading-of refused-reading
+admitted-reading s a = ap (λ (x : Answer). reading-of x (set-with (policy-of s) (tasks-of s))) (sym (reading-answer s) ∙ a)

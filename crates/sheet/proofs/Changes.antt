@@ -13,8 +13,8 @@ use Rattle.check_word.specs.Change.{AgreeOutside, inverted, with-bit-inverted}
 use Rattle.check_word.specs.Division.{sealed}
 use Rattle.check_word.proofs.Detects.{detects-burst, detects-one-bit}
 use Rattle.sheet.specs.Constants.{least-size, greatest-size}
-use Rattle.sheet.specs.Tasks.{blank-set}
-use Rattle.sheet.specs.Reading.{sheet-checks, reading-by, reading}
+use Rattle.sheet.specs.Tasks.{blank-set, set-with}
+use Rattle.sheet.specs.Reading.{sheet-checks, policy-of, tasks-of, refused-reading, reading-of, reading}
 use Rattle.sheet.specs.declared.Answer.{Answer}
 use Rattle.sheet.specs.declared.Answer.the-variants.{Admitted, Refused}
 use Rattle.sheet.specs.declared.Refusal.the-variants.{Length, CheckWord}
@@ -24,9 +24,9 @@ use Rattle.sheet.proofs.Carried.{PassedSheet, passed-sheet}
 -- a byte string of a lawful length that is not sealed is refusal 2
 pub unsealed-is-refused-2 : (t : List ℕ) → least-size ≤ length t → length t ≤ greatest-size → sealed t ≡ false
     → reading t ≡ record { answer = Refused CheckWord; set = blank-set }
-unfolding reading reading-by sheet-checks
+unfolding reading reading-of refused-reading sheet-checks
 unsealed-is-refused-2 t l h e =
-    ap (λ (a : Answer). reading-by a t)
+    ap (λ (a : Answer). reading-of a (set-with (policy-of t) (tasks-of t)))
     (passed-over (not (leb least-size (length t) && leb (length t) greatest-size)) Length _
     (rw (le-leb least-size (length t) l, le-leb (length t) greatest-size h))
     ∙ applies (not (sealed t)) CheckWord _ (ap not e))

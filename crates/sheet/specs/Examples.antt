@@ -15,7 +15,7 @@ use Rattle.records.specs.Sealed.{whole-bytes, sealed-record, some-set}
 use Rattle.sheet.specs.Tasks.{record-of, task-in, set-with, records-of, blank-set}
 use Rattle.sheet.specs.Layout.{header-in, behind-header, frame-count-in, record-width, task-at-start, tasks-in}
 use Rattle.sheet.specs.Admission.{decided, known-policy, all, is-time, in-range, well-formed, lock-fits, monotonic, policy-check, task-count-check, frame-count-check, task-checks, frame-count-checks, list-checks, admission}
-use Rattle.sheet.specs.Reading.{layout-checks, sheet-checks, policy-of, tasks-of, reading-by, reading}
+use Rattle.sheet.specs.Reading.{layout-checks, sheet-checks, policy-of, tasks-of, refused-reading, reading-of, reading}
 use Rattle.sheet.specs.Writing.{header-bits, task-bits, tasks-bits, sheet-of}
 use Rattle.sheet.specs.declared.Answer.{Answer}
 use Rattle.sheet.specs.declared.Answer.the-variants.{Admitted, Refused}
@@ -39,7 +39,7 @@ unfolding tasks answer-to admission list-checks frame-count-checks records-of se
 lists = tt
 
 sheets : Unit {0}
-unfolding tasks reading reading-by sheet-checks layout-checks policy-of tasks-of tasks-in task-at-start record-width frame-count-in behind-header header-in some-set sheet-of sealed-record whole-bytes header-bits tasks-bits task-bits packed unpacked total sealed seal body check-word remainder divided started added polynomial xor bytes-of bits-of digits value
+unfolding tasks reading reading-of refused-reading sheet-checks layout-checks policy-of tasks-of tasks-in task-at-start record-width frame-count-in behind-header header-in some-set sheet-of sealed-record whole-bytes header-bits tasks-bits task-bits packed unpacked total sealed seal body check-word remainder divided started added polynomial xor bytes-of bits-of digits value
 sheets = tt
 
 -- ---- worked by hand

@@ -18,6 +18,7 @@ use Rattle.sheet.specs.Admission.{decided, policy-check, task-count-chec
 use Rattle.sheet.specs.declared.Answer.{Answer}
 use Rattle.sheet.specs.declared.Answer.the-variants.{Admitted, Refused}
 use Rattle.sheet.specs.declared.Reading.{Reading}
+use Rattle.sheet.specs.declared.TaskSet.{TaskSet}
 use Rattle.sheet.specs.declared.Refusal.{Refusal}
 use Rattle.sheet.specs.declared.Refusal.the-variants.{Length, CheckWord, Version, BitSet, Records}
 
@@ -52,10 +53,15 @@ policy-of s = header-in (bits-of (body s)) .policy
 unfoldable pub tasks-of : List ℕ → List Task
 tasks-of s = let bits = bits-of (body s) in tasks-in (header-in bits .task-count) (behind-header bits)
 
--- the answer, and beside it the set where the sheet is admitted
-unfoldable pub reading-by : Answer → List ℕ → Reading
-reading-by Admitted s = record { answer = Admitted; set = set-with (policy-of s) (tasks-of s) }
-reading-by (Refused r) s = record { answer = Refused r; set = blank-set }
+-- a refusal, and beside it a set with no task
+unfoldable pub refused-reading : Refusal → Reading
+refused-reading why = record { answer = Refused why; set = blank-set }
 
+-- a set by the answer to it
+unfoldable pub reading-of : Answer → TaskSet → Reading
+reading-of Admitted s = record { answer = Admitted; set = s }
+reading-of (Refused why) s = refused-reading why
+
+-- what a byte string is read as
 unfoldable pub reading : List ℕ → Reading
-reading s = reading-by (decided (sheet-checks s)) s
+reading s = reading-of (decided (sheet-checks s)) (set-with (policy-of s) (tasks-of s))

@@ -32,7 +32,7 @@ blank-record = record { period = 0; deadline = 0; lock = 0; «frame_count» = 0;
 abbrev pub no-record : Record
 no-record = record { period = 0; deadline = 0; lock = 0; «frame_count» = 0; frames = [] }
 
--- the number that follows k in a round of n numbers
+-- the number that follows k in a round of n numbers: of k below n the remainder of suc k by n, as `next-frame` of the theory says
 unfoldable pub next-round : ℕ → ℕ → ℕ
 next-round k n = cond (ltb (suc k) n) (suc k) 0
 

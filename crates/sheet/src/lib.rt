@@ -114,7 +114,7 @@ impl Sheet {
 
     pub const DEADLINE_MONOTONIC: u32 = 2;
 
-    // The constants and the numbers of the definitions are the same: neither can be changed alone.
+    // The constants and the numbers of the definitions are the same: neither can be changed alone. Where a field stands is held by the reader.
     pub fn widths() -> Widths
         ensures { λ r. ⌜ r ≡ the-widths ⌝ }
     {
@@ -241,6 +241,7 @@ pub fn miscounted(n: u32, most: u32) -> bool
 pub fn next_frame(k: usize, count: usize) -> usize
     ensures { λ r. ⌜ r ≡ next-round k count ⌝ }
 {
+    // behind the last number comes 0, which is the answer there too
     let next = std::num::wrapping_add_usize(k, 1);
     if next < count {
         return next;

@@ -80,7 +80,7 @@ fn main() {
     let sets: Vec<Set> = (0..2_000).map(|_| generate::admitted_set(&mut random)).collect();
     measure("any: 1 to 16 tasks, 1 to 8 frames", &sets, 10, 5);
     let [missing, holding] = generate::costly_sets();
-    measure("costliest to a miss", &[missing], 1, 2);
-    measure("costliest to times, equal frames", &[holding], 1, 2);
-    measure("costliest to times, one larger frame", &[one_larger_frame()], 1, 2);
+    measure("costliest to a miss", &[missing], 1, 20);
+    measure("costliest to times, equal frames", &[holding], 1, 4);
+    measure("costliest to times, one larger frame", &[one_larger_frame()], 1, 10);
 }

@@ -1,5 +1,5 @@
 -- `refused` meets its contract.
-use Rattle.admission.specs.Judged.{shapes-of, turned-away}
+use Rattle.admission.specs.Judged.{shapes-of, refused-judged}
 use borrow.Author.Needs.{needs}
 use Rattle.admission.proofs.refused.Statement.{statement}
 use Rattle.admission.proofs.refused.Tie as tie
@@ -11,7 +11,7 @@ blank-requires-2 : tie.Need-blank-requires-2
 blank-requires-2 c κs = search needs
 
 returns : tie.Need-returns
-unfolding turned-away shapes-of
+unfolding refused-judged shapes-of
 returns c = rw (c .before .blank .ensures, c .blank2 .ensures)
 
 pub refused-spec : {M : Type 1} → statement M

@@ -4,26 +4,26 @@ use native.Mathlib.Omega.{arith}
 use Rattle.sheet.specs.Tasks.{task-in}
 use Rattle.admission.specs.Inside.Frames.{all-between}
 use Rattle.sheet.proofs.Records.{frames-used}
-use Rattle.admission.proofs.Fits.{turned-away, frames-decide}
+use Rattle.admission.proofs.Fits.{not-fitting, frames-decide}
 use borrow.Author.Needs.{needs}
 use Rattle.admission.proofs.well_formed.Statement.{statement}
 use Rattle.admission.proofs.well_formed.Tie as tie
 
 returns : tie.Need-returns
 unfolding task-in
-returns c = sym (turned-away _ (λ f. omega arith))
+returns c = sym (not-fitting _ (λ f. omega arith))
 
 returns-2 : tie.Need-returns-2
 unfolding task-in
-returns-2 c = sym (turned-away _ (λ f. omega arith))
+returns-2 c = sym (not-fitting _ (λ f. omega arith))
 
 returns-3 : tie.Need-returns-3
 unfolding task-in
-returns-3 c = sym (turned-away _ (λ f. omega arith))
+returns-3 c = sym (not-fitting _ (λ f. omega arith))
 
 returns-4 : tie.Need-returns-4
 unfolding task-in
-returns-4 c = sym (turned-away _ (λ f. omega arith))
+returns-4 c = sym (not-fitting _ (λ f. omega arith))
 
 cast-in-use : tie.Need-cast-in-use
 cast-in-use c = search needs

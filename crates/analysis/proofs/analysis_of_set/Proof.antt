@@ -1,7 +1,7 @@
 -- `analysis_of_set` meets its contract.
 use mathlib.Core.Path.{_∙_}
 use Rattle.analysis.specs.Answers.{set-analysis}
-use Rattle.analysis.proofs.Entries.{analysable, of-judged}
+use Rattle.analysis.proofs.Entries.{rightly-judged, of-judged}
 use borrow.Author.Needs.{needs}
 use Rattle.analysis.proofs.analysis_of_set.Statement.{statement}
 use Rattle.analysis.proofs.analysis_of_set.Tie as tie
@@ -10,7 +10,7 @@ admit-requires : tie.Need-admit-requires
 admit-requires c κs = search needs
 
 analysis-of-requires : tie.Need-analysis-of-requires
-analysis-of-requires c κs = analysable _ _ _ (c .admit .ensures) (λ e. e)
+analysis-of-requires c κs = rightly-judged _ _ _ (c .admit .ensures) (λ e. e)
 
 returns : tie.Need-returns
 unfolding set-analysis

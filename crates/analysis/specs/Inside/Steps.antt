@@ -23,12 +23,12 @@ use Rattle.analysis.specs.Times.{slots-by}
 use Rattle.analysis.specs.declared.Finding.{Finding}
 
 -- a set that was judged: where the answer admits it, it is admitted, with the shapes of its tasks
-pub record Analysable (j : Judged) : Type 0 where
+pub record RightlyJudged (j : Judged) : Type 0 where
   pub admits : j .answer ≡ Admitted → admission (j .set) ≡ Admitted
   pub shapes-are : j .answer ≡ Admitted → j .shapes ≡ shapes-of (map task-in (records-of (j .set)))
 
 -- an ordered set and its shapes by number: each task has a frame, and at its number stands its shape
-pub record Shaped (o : Ordered) (shapes : List Shape) : Type 0 where
+pub record ShapesStand (o : Ordered) (shapes : List Shape) : Type 0 where
   pub framed : (p : ℕ) → p < length (tasks-in-order o) → 1 ≤ frame-count (task-at (tasks-in-order o) p)
   pub numbered : (p : ℕ) → p < length (tasks-in-order o) → getD (o .numbers) p 0 < most-tasks
   pub shape-is : (p : ℕ) → p < length (tasks-in-order o) → getD shapes (getD (o .numbers) p 0) no-shape ≡ shape-of (task-at (tasks-in-order o) p)

@@ -1,6 +1,6 @@
 -- `refused` meets its contract.
 use borrow.Author.Needs.{needs}
-use Rattle.reader.specs.Inside.Parts.{turned-away}
+use Rattle.sheet.specs.Reading.{refused-reading}
 use Rattle.reader.proofs.refused.Statement.{statement}
 use Rattle.reader.proofs.refused.Tie as tie
 
@@ -8,7 +8,7 @@ blank-requires : tie.Need-blank-requires
 blank-requires c κs = search needs
 
 returns : tie.Need-returns
-unfolding turned-away
+unfolding refused-reading
 returns c = rw (c .blank .ensures)
 
 pub refused-spec : {M : Type 1} → statement M

@@ -12,7 +12,7 @@ use Rattle.sheet.specs.Tasks.{record-of, blank-record, set-with, blank-set}
 use Rattle.sheet.specs.Layout.{header-in, behind-header, frame-count-in, record-width, task-at-start, tasks-in}
 use Rattle.lent.specs.Checks.{Check, _⇒_}
 use Rattle.sheet.specs.Admission.{decided, policy-check, task-count-check, frame-count-check}
-use Rattle.sheet.specs.Reading.{layout-checks}
+use Rattle.sheet.specs.Reading.{layout-checks, reading-of}
 use Rattle.sheet.specs.declared.Answer.{Answer}
 use Rattle.sheet.specs.declared.Answer.the-variants.{Admitted, Refused}
 use Rattle.sheet.specs.declared.Reading.{Reading}
@@ -21,15 +21,6 @@ use Rattle.sheet.specs.declared.Refusal.the-variants.{Version, BitSet, Records}
 use Rattle.sheet.specs.declared.TaskSet.{TaskSet}
 use Rattle.reader.specs.declared.Found.{Found}
 use Rattle.reader.specs.declared.Times.{Times}
-
--- a refusal, and beside it a set with no task
-unfoldable pub turned-away : Refusal → Reading
-turned-away why = record { answer = Refused why; set = blank-set }
-
--- a set where it is admitted
-unfoldable pub reading-of : Answer → TaskSet → Reading
-reading-of Admitted s = record { answer = Admitted; set = s }
-reading-of (Refused why) s = turned-away why
 
 -- n frame times from a position on in eight slots, and where they end
 unfoldable pub frame-times-at : List ℕ → ℕ → ℕ → Times

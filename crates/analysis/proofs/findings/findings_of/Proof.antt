@@ -2,7 +2,7 @@
 use mathlib.Core.Path.{_≡_, refl, sym, ap, _∙_}
 use Prim.Native.Nat.{_≤_, _<_, _-_}
 use native.Mathlib.Omega.{arith}
-use lib.ListN.{length}
+use lib.ListN.{length, getD}
 use Rattle.theory.specs.Tasks.{Task, start-frame}
 use Rattle.sheet.specs.Constants.{most-tasks}
 use Rattle.sheet.proofs.Records.{mapped-length}
@@ -26,6 +26,12 @@ abbrev μ-loop : tie.MeasureT-loop
 start-is : (s : Shape) (t : Task) → s ≡ shape-of t → s .start ≡ start-frame t
 unfolding shape-of
 start-is s t e = ap (λ (x : Shape). x .start) e
+
+-- there is a shape at the number of a task
+below : (c : tie.After-task Inv-loop μ-loop) → getD (c .before .before .before .before .before .before .before .before .before .args .o .numbers) (c .before .before .loop .p) 0 < most-tasks
+below c =
+    let at = c .before .before in
+    c .before .before .before .before .before .before .before .before .before .pre .numbered (at .loop .p) (omega (arith, at .loop .inv .1))
 
 cast-in-use : tie.Need-cast-in-use Inv-loop μ-loop
 cast-in-use c = search needs
@@ -58,22 +64,13 @@ array-read-number : tie.Need-array-read-number Inv-loop μ-loop
 array-read-number c = search needs
 
 cast-shape : tie.Need-cast-shape Inv-loop μ-loop
-cast-shape c =
-    let at = c .before .before in
-    let below = c .before .before .before .before .before .before .before .before .before .pre .numbered (at .loop .p) (omega (arith, at .loop .inv .1)) in
-    record { fits = omega (arith, below) }
+cast-shape c = record { fits = omega (arith, below c) }
 
 mul-shape : tie.Need-mul-shape Inv-loop μ-loop
-mul-shape c =
-    let at = c .before .before in
-    let below = c .before .before .before .before .before .before .before .before .before .pre .numbered (at .loop .p) (omega (arith, at .loop .inv .1)) in
-    record { fits = omega (arith, below) }
+mul-shape c = record { fits = omega (arith, below c) }
 
 array-copy-out-shape : tie.Need-array-copy-out-shape Inv-loop μ-loop
-array-copy-out-shape c =
-    let at = c .before .before in
-    let below = c .before .before .before .before .before .before .before .before .before .pre .numbered (at .loop .p) (omega (arith, at .loop .inv .1)) in
-    below
+array-copy-out-shape c = below c
 
 cast-blocking : tie.Need-cast-blocking Inv-loop μ-loop
 cast-blocking c = search needs
