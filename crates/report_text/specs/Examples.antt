@@ -1,4 +1,4 @@
--- The report on case F in full, computed from the definitions.
+-- The report on a small set in full, computed from the definitions.
 use mathlib.Core.Bool.{xor}
 use mathlib.Core.List.{List, [], _∷_}
 use mathlib.Core.Path.{_≡_, refl}
@@ -20,21 +20,21 @@ use Rattle.analysis.specs.Answers.{outcome-by}
 use Rattle.report_text.specs.Words.{decimal-of, decimal, line}
 use Rattle.report_text.specs.Report.{blocker-word, first-line, time-words, task-line, task-lines, lines-behind, report}
 
--- case F: the first task has deadline 4, the second lock 3
-abbrev pub f : List Task
-f =
-    record { period = 10; deadline = 4; lock = 0; frames = 2 ∷ [] }
-    ∷ record { period = 20; deadline = 20; lock = 3; frames = 5 ∷ [] }
+-- the second task has lock 2, so the first waits for it one tick
+abbrev pub two-tasks : List Task
+two-tasks =
+    record { period = 6; deadline = 3; lock = 0; frames = 1 ∷ [] }
+    ∷ record { period = 12; deadline = 9; lock = 2; frames = 3 ∷ [] }
     ∷ []
 
 -- holds 2
--- 0 10 4 2 4
--- 1 20 20 0 7
-pub report-of-f :
-    report (sheet-of 0 f)
+-- 0 6 3 1 2
+-- 1 12 9 0 4
+pub report-of-two-tasks :
+    report (sheet-of 0 two-tasks)
     ≡ 0x68 ∷ 0x6F ∷ 0x6C ∷ 0x64 ∷ 0x73 ∷ 0x20 ∷ 0x32 ∷ 0x0A
-    ∷ 0x30 ∷ 0x20 ∷ 0x31 ∷ 0x30 ∷ 0x20 ∷ 0x34 ∷ 0x20 ∷ 0x32 ∷ 0x20 ∷ 0x34 ∷ 0x0A
-    ∷ 0x31 ∷ 0x20 ∷ 0x32 ∷ 0x30 ∷ 0x20 ∷ 0x32 ∷ 0x30 ∷ 0x20 ∷ 0x30 ∷ 0x20 ∷ 0x37 ∷ 0x0A
+    ∷ 0x30 ∷ 0x20 ∷ 0x36 ∷ 0x20 ∷ 0x33 ∷ 0x20 ∷ 0x31 ∷ 0x20 ∷ 0x32 ∷ 0x0A
+    ∷ 0x31 ∷ 0x20 ∷ 0x31 ∷ 0x32 ∷ 0x20 ∷ 0x39 ∷ 0x20 ∷ 0x30 ∷ 0x20 ∷ 0x34 ∷ 0x0A
     ∷ []
 unfolding report first-line blocker-word time-words task-line task-lines lines-behind line decimal decimal-of outcome-by outcome-of number-at place-of blocker-number verdict-number times-from key is-higher placed order-from priority-order ordered-set sheet-checks layout-checks policy-of tasks-of tasks-in task-at-start record-width frame-count-in behind-header header-in some-set decided first-refusal known-policy task-checks policy-check task-count-check frame-count-check in-range well-formed lock-fits monotonic all is-time lower largest-lock blocking blocker higher releases higher-work demand response demand-of response-of passes verdict task-at frame-count frame work largest largest-frame qualifies start-frame deadline-of shortest-deadline first every found sheet-of sealed-record whole-bytes header-bits tasks-bits task-bits packed unpacked total sealed seal body check-word remainder divided started added polynomial xor bytes-of bits-of digits value
-report-of-f = refl
+report-of-two-tasks = refl
