@@ -9,6 +9,7 @@ use lib.Dec.{ltb}
 use lib.ListN.{length, getD, drop}
 use Rattle.bits.specs.Packed.{Bytes, bits-of}
 use Rattle.check_word.specs.Change.{AgreeOutside}
+use Rattle.check_word.specs.Division.{word-width}
 use Rattle.theory.specs.Tasks.{Task, task-at, frame-count, deadline-of}
 use Rattle.theory.specs.Tasks.{Admitted as IsAdmitted}
 use Rattle.theory.specs.Analysis.{IsResponse, demand-of, blocker}
@@ -128,11 +129,11 @@ unfoldable pub refusal-to : Answer → (needs has : ℕ) → Option Refusal
 refusal-to (turned why) needs has = some why
 refusal-to Admitted needs has = cond (ltb has needs) (some Room) none
 
--- Byte string t is s changed within sixteen neighbouring bits.
+-- Byte string t is s changed within sixteen neighbouring bits, as many as the check word has.
 pub record Damaged (s t : List ℕ) : Type 0 where
   pub bytes-before : Bytes s
   pub bytes-after : Bytes t
   pub same-length : length s ≡ length t
   pub from : ℕ
-  pub elsewhere-same : AgreeOutside from 16 (bits-of s) (bits-of t)
+  pub elsewhere-same : AgreeOutside from word-width (bits-of s) (bits-of t)
   pub changed : ¬ (s ≡ t)
