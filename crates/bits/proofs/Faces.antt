@@ -7,7 +7,6 @@ use borrow.Author.Tests.{lt-ltb, le-ltb}
 use lib.ListN.{length}
 use Rattle.bits.specs.Packed.{value, digits, bits-of, bytes-of, field, with-field}
 use Rattle.bits.specs.Faces.{within, taken, fits, stored}
-use Rattle.bits.specs.declared.Taken.{Taken}
 use Rattle.bits.specs.declared.Taken.the-variants.{Value, Outside}
 use Rattle.bits.proofs.Within.{Inside, within-in}
 

@@ -12,7 +12,7 @@ use lib.Seq.{length-take-le}
 use Rattle.lent.specs.Lent.{laid}
 use Rattle.lent.proofs.Checks.{applies, passed-over, no-check}
 use Rattle.lent.proofs.Laid.{laid-to, laid-none, laid-more, laid-all, laid-most}
-use Rattle.lent.proofs.Lent.{by-checks, by-room, done, TurnedAway}
+use Rattle.lent.proofs.Lent.{by-checks, by-room, done}
 use Rattle.sheet.specs.Constants.{most-tasks}
 use Rattle.sheet.specs.Tasks.{blank-record, records-of}
 use Rattle.sheet.specs.declared.Task.{Task}

@@ -19,7 +19,6 @@ use Rattle.lent.specs.Lent.{laid}
 use Rattle.records.specs.Rows.{packed, unpacked, total}
 use Rattle.records.specs.Sealed.{sealed-record, sealed-size, whole-bytes}
 use Rattle.records.specs.Faces.{row-fits, with-bits, stored-row, row-has-slots, taken-row, closed}
-use Rattle.records.specs.declared.Rest.the-variants.{Zeros}
 use Rattle.records.proofs.Packing.{length-packed, unpacked-packed}
 use Rattle.records.proofs.Rows.{as-many, fit-of}
 use Rattle.records.proofs.Faces.{Puts, puts, row-put, take-both}

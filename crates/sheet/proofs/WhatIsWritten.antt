@@ -6,7 +6,7 @@ use native.Mathlib.Omega.{arith}
 use lib.ListN.{length, take}
 use Rattle.lent.specs.Lent.{laid}
 use Rattle.lent.proofs.Laid.{take-laid}
-use Rattle.lent.proofs.Lent.{Done, TurnedAway, Told, turned-away, is-done, told, done}
+use Rattle.lent.proofs.Lent.{Done, Told, turned-away, is-done, told, done}
 use Rattle.sheet.specs.Tasks.{records-of}
 use Rattle.sheet.specs.Admission.{list-checks, admission}
 use Rattle.sheet.specs.Writing.{sheet-bytes, writing, written, left}
