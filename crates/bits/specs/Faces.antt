@@ -8,9 +8,13 @@ use Rattle.bits.specs.Packed.{value, digits, bits-of, bytes-of, field, w
 use Rattle.bits.specs.declared.Taken.{Taken}
 use Rattle.bits.specs.declared.Taken.the-variants.{Value, Outside}
 
+-- the most bits that a field has
+abbrev pub widest : ℕ
+widest = 32
+
 -- a field has 1 to 32 bits and lies wholly in a string of n bytes
 unfoldable pub within : ℕ → ℕ → ℕ → Bool
-within n at w = leb 1 w && leb w 32 && leb (at + w) (8 * n)
+within n at w = leb 1 w && leb w widest && leb (at + w) (8 * n)
 
 -- the number in the field, where there is such a field
 unfoldable pub taken : List ℕ → ℕ → ℕ → Taken

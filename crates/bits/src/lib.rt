@@ -3,7 +3,10 @@ ghost use mathlib.Core.Path.{_≡_};
 ghost use Prim.Native.Nat.{_+_, _-_, _*_, _/_, _%_, _^_, _≤_, _<_};
 ghost use lib.ListN.{length};
 ghost use Rattle.bits.specs.Packed.{value, digits, bits-of, bytes-of};
-ghost use Rattle.bits.specs.Faces.{within, taken, fits, stored};
+ghost use Rattle.bits.specs.Faces.{widest, within, taken, fits, stored};
+
+// The most bits that a field has.
+pub const WIDEST: usize = 32;
 
 pub enum Taken {
     Value(u32),
@@ -17,7 +20,7 @@ fn lies_within(len: usize, at: usize, width: usize) -> bool
     if width < 1 {
         return false;
     }
-    if 32 < width {
+    if WIDEST < width {
         return false;
     }
     if len <= at / 8 {
@@ -57,7 +60,7 @@ struct Touched {
 }
 
 fn touched_by(at: usize, width: usize) -> Touched
-    requires { ⌜ (1 ≤ width) × (width ≤ 32) ⌝ }
+    requires { ⌜ (1 ≤ width) × (width ≤ widest) ⌝ }
     ensures { λ r. ⌜ (r .first ≡ at / 8) × (r .end ≡ (at + width + 7) / 8) × (r .past ≡ 8 * ((at + width + 7) / 8) - (at + width)) ⌝ }
 {
     let lead = at % 8;
@@ -71,7 +74,7 @@ fn touched_by(at: usize, width: usize) -> Touched
 
 // The last `width` bits of a number.
 fn low_bits(n: u64, width: usize) -> u64
-    requires { ⌜ width ≤ 32 ⌝ }
+    requires { ⌜ width ≤ widest ⌝ }
     ensures { λ r. ⌜ r ≡ n % 2 ^ width ⌝ }
 {
     n & ((1 << width) - 1)
@@ -79,7 +82,7 @@ fn low_bits(n: u64, width: usize) -> u64
 
 // A number with `v` instead of the `width` bits above its last `past`.
 fn with_value(n: u64, width: usize, past: usize, v: u64) -> u64
-    requires { ⌜ (n < 2 ^ 40) × (width ≤ 32) × (past < 8) × (v < 2 ^ width) ⌝ }
+    requires { ⌜ (n < 2 ^ 40) × (width ≤ widest) × (past < 8) × (v < 2 ^ width) ⌝ }
     ensures { λ r. ⌜ r ≡ n / 2 ^ (width + past) * 2 ^ (width + past) + (v * 2 ^ past + n % 2 ^ past) ⌝ }
 {
     let above = n >> (width + past) << (width + past);

@@ -11,7 +11,7 @@ use lib.ListN.{length, take, drop, replicate, length-append, length-drop, length
 use lib.Pow.{pow-pos}
 use lib.Seq.{take-all, take-at, length-take-le}
 use Rattle.bits.specs.Packed.{value, odd, digits, Bytes, bits-of, bytes-of, field, with-field}
-use Rattle.bits.specs.Faces.{stored}
+use Rattle.bits.specs.Faces.{widest, stored}
 use Rattle.bits.proofs.Faces.{stored-not, fits-outside}
 use Rattle.bits.proofs.Laws.{length-bytes, length-bits, bits-bytes, bytes-bits, bytes-take, take-bits}
 use Rattle.bits.proofs.RoundTrip.{bits-stored}
@@ -121,7 +121,7 @@ zero-digits zero = refl
 zero-digits (suc w) = ap₂ _∷_ (ap odd (zero-div (2 ^ w))) (zero-digits w)
 
 -- a field of zeros, also where it has no bit
-cleared : (s : List ℕ) (n w : ℕ) → w ≤ 32 → n + w ≤ 8 * length s → bits-of (stored s n w 0) ≡ with-field n (replicate w false) (bits-of s)
+cleared : (s : List ℕ) (n w : ℕ) → w ≤ widest → n + w ≤ 8 * length s → bits-of (stored s n w 0) ≡ with-field n (replicate w false) (bits-of s)
 unfolding with-field
 cleared s n zero h l =
     ap bits-of (stored-not s n 0 0 (fits-outside s n 0 0 (within-narrow (length s) n 0 (omega arith))))

@@ -9,6 +9,7 @@ use borrow.Author.Tests.{le-leb, lt-leb, leb-true, lt-ltb, le-ltb, ltb-true}
 use lib.Dec.{leb, ltb}
 use lib.ListN.{length, getD, drop, drop-of-length-le}
 use lib.Seq.{drop-cons}
+use Rattle.bits.specs.Faces.{widest}
 use Rattle.bits.proofs.Tests.{leb-iff}
 use Rattle.records.specs.Rows.{total}
 use Rattle.records.specs.Faces.{end-of, lawful, row-there, each-fits}
@@ -16,14 +17,14 @@ use Rattle.records.proofs.Packing.{Fit, no-field, one-more}
 
 -- ---- widths
 
-lawful-first : (w : ℕ) (ws : List ℕ) → lawful (w ∷ ws) ≡ true → (1 ≤ w) × (w ≤ 32) × (lawful ws ≡ true)
+lawful-first : (w : ℕ) (ws : List ℕ) → lawful (w ∷ ws) ≡ true → (1 ≤ w) × (w ≤ widest) × (lawful ws ≡ true)
 unfolding lawful
 lawful-first w ws e =
-    let all = and-eq-true-iff (leb 1 w && leb w 32) (lawful ws) .0 e in
-    let width = and-eq-true-iff (leb 1 w) (leb w 32) .0 (all .0) in
-    (leb-true 1 w (width .0), leb-true w 32 (width .1), all .1)
+    let all = and-eq-true-iff (leb 1 w && leb w widest) (lawful ws) .0 e in
+    let width = and-eq-true-iff (leb 1 w) (leb w widest) .0 (all .0) in
+    (leb-true 1 w (width .0), leb-true w widest (width .1), all .1)
 
-pub lawful-at : (ws : List ℕ) → lawful ws ≡ true → (i : ℕ) → i < length ws → (1 ≤ getD ws i 0) × (getD ws i 0 ≤ 32)
+pub lawful-at : (ws : List ℕ) → lawful ws ≡ true → (i : ℕ) → i < length ws → (1 ≤ getD ws i 0) × (getD ws i 0 ≤ widest)
 lawful-at [] e i h = let z : ⊥ = omega arith in absurd z
 lawful-at (w ∷ ws) e zero h = let f = lawful-first w ws e in (f .0, f .1)
 lawful-at (w ∷ ws) e (suc i) h = lawful-at ws (lawful-first w ws e .2) i (omega arith)
@@ -61,9 +62,9 @@ module _ (left : ℕ) (ws : List ℕ) (i : ℕ) (h : i < length ws) where
   unfolding room-for lawful
   room-narrow l = rw (next-is, lt-leb 1 (getD ws i 0) l)
 
-  pub room-wide : 1 ≤ getD ws i 0 → 32 < getD ws i 0 → room-for left (drop i ws) ≡ false
+  pub room-wide : 1 ≤ getD ws i 0 → widest < getD ws i 0 → room-for left (drop i ws) ≡ false
   unfolding room-for lawful
-  room-wide m l = rw (next-is, le-leb 1 (getD ws i 0) m, lt-leb (getD ws i 0) 32 l)
+  room-wide m l = rw (next-is, le-leb 1 (getD ws i 0) m, lt-leb (getD ws i 0) widest l)
 
   pub room-short : left < getD ws i 0 → room-for left (drop i ws) ≡ false
   unfolding room-for total
@@ -72,10 +73,10 @@ module _ (left : ℕ) (ws : List ℕ) (i : ℕ) (h : i < length ws) where
       ∙ ap (λ (b : Bool). lawful (getD ws i 0 ∷ drop (suc i) ws) && b) (lt-leb (getD ws i 0 + total (drop (suc i) ws)) left (omega arith))
       ∙ and-false (lawful (getD ws i 0 ∷ drop (suc i) ws))
 
-  pub room-more : 1 ≤ getD ws i 0 → getD ws i 0 ≤ 32 → getD ws i 0 ≤ left → room-for left (drop i ws) ≡ room-for (left - getD ws i 0) (drop (i + 1) ws)
+  pub room-more : 1 ≤ getD ws i 0 → getD ws i 0 ≤ widest → getD ws i 0 ≤ left → room-for left (drop i ws) ≡ room-for (left - getD ws i 0) (drop (i + 1) ws)
   unfolding room-for lawful total
   room-more m w l =
-      rw (next-is, le-leb 1 (getD ws i 0) m, le-leb (getD ws i 0) 32 w, add-one i)
+      rw (next-is, le-leb 1 (getD ws i 0) m, le-leb (getD ws i 0) widest w, add-one i)
       (ap (λ (b : Bool). lawful (drop (suc i) ws) && b)
       (leb-iff (getD ws i 0 + total (drop (suc i) ws)) left (total (drop (suc i) ws)) (left - getD ws i 0) (λ p. omega arith) (λ p. omega arith)))
 

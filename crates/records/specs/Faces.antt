@@ -5,6 +5,7 @@ use Prim.Native.Nat.{ℕ, _+_, _-_, _*_, _^_, min}
 use lib.Dec.{leb, ltb, eqb}
 use lib.ListN.{length, take, drop}
 use Rattle.bits.specs.Packed.{bits-of, bytes-of, with-field}
+use Rattle.bits.specs.Faces.{widest}
 use Rattle.lent.specs.Lent.{laid}
 use Rattle.records.specs.Rows.{packed, unpacked, total}
 use Rattle.records.specs.Sealed.{sealed-size, sealed-record}
@@ -22,7 +23,7 @@ end-of n = min (8 * n) last-position
 -- each field has 1 to 32 bits
 unfoldable pub lawful : List ℕ → Bool
 lawful [] = true
-lawful (w ∷ ws) = leb 1 w && leb w 32 && lawful ws
+lawful (w ∷ ws) = leb 1 w && leb w widest && lawful ws
 
 -- fields from a position on lie in a string of n bytes
 unfoldable pub row-there : ℕ → ℕ → List ℕ → Bool

@@ -53,7 +53,7 @@ fn row_there(len: usize, at: usize, widths: &[usize]) -> bool
         if width < 1 {
             return false;
         }
-        if 32 < width {
+        if bits::WIDEST < width {
             return false;
         }
         if left < width {
