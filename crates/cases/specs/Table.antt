@@ -11,6 +11,7 @@ use Rattle.sheet.specs.Writing.{sheet-of}
 use Rattle.sheet.specs.declared.Refusal.the-variants.{TaskCount, IllFormed, Lock, NotMonotonic}
 use Rattle.order.specs.Order.{priority-order}
 use Rattle.order.specs.declared.Blocker.the-variants.{At, Nobody}
+use Rattle.report_text.specs.Report.{report}
 use Rattle.analysis.specs.Findings.{times-by-number}
 use Rattle.analysis.specs.Answers.{set-analysis}
 use Rattle.analysis.specs.declared.Analysis.{Analysis}
@@ -27,6 +28,8 @@ pub data Expected : Type 0 where
   order : List ℕ → Expected
   -- the bytes before the check word
   bytes : List ℕ → Expected
+  -- the report
+  text : List ℕ → Expected
 
 pub record Case : Type 0 where
   pub policy : ℕ
@@ -67,10 +70,21 @@ given c (analysed outcome slots) = given-by (set-analysis (set-with (c .policy) 
 given c (start frame) = start (start-frame (task-at (c .tasks) 0))
 given c (order numbers) = order (priority-order (c .policy) (c .tasks))
 given c (bytes front) = bytes (body (sheet-of (c .policy) (c .tasks)))
+given c (text letters) = text (report (sheet-of (c .policy) (c .tasks)))
 
 -- the definitions give every case its answers
 unfoldable pub Agrees : List Case → Type 0
 Agrees cases = map (λ c. map (given c) (c .expects)) cases ≡ map (λ c. c .expects) cases
+
+-- holds 2
+-- 0 10 4 2 4
+-- 1 20 20 0 7
+abbrev pub report-of-f : List ℕ
+report-of-f =
+    0x68 ∷ 0x6F ∷ 0x6C ∷ 0x64 ∷ 0x73 ∷ 0x20 ∷ 0x32 ∷ 0x0A
+    ∷ 0x30 ∷ 0x20 ∷ 0x31 ∷ 0x30 ∷ 0x20 ∷ 0x34 ∷ 0x20 ∷ 0x32 ∷ 0x20 ∷ 0x34 ∷ 0x0A
+    ∷ 0x31 ∷ 0x20 ∷ 0x32 ∷ 0x30 ∷ 0x20 ∷ 0x32 ∷ 0x30 ∷ 0x20 ∷ 0x30 ∷ 0x20 ∷ 0x37 ∷ 0x0A
+    ∷ []
 
 unfoldable pub table : List Case
 table =
@@ -85,7 +99,7 @@ table =
     -- E
     ∷ case 1 (plain 4 (1 ∷ []) ∷ plain 14 (10 ∷ []) ∷ []) (times Holds ((1 ∷ []) ∷ (14 ∷ []) ∷ []) ∷ [])
     -- F
-    ∷ case 0 (with-deadline 10 4 (2 ∷ []) ∷ with-lock 20 3 (5 ∷ []) ∷ []) (times Holds ((4 ∷ []) ∷ (7 ∷ []) ∷ []) ∷ [])
+    ∷ case 0 (with-deadline 10 4 (2 ∷ []) ∷ with-lock 20 3 (5 ∷ []) ∷ []) (times Holds ((4 ∷ []) ∷ (7 ∷ []) ∷ []) ∷ text report-of-f ∷ [])
     -- G
     ∷ case 0 (with-deadline 10 4 (2 ∷ []) ∷ with-lock 20 4 (5 ∷ []) ∷ []) (times (Missed 0 (At 1)) ([] ∷ (7 ∷ []) ∷ []) ∷ [])
     -- H

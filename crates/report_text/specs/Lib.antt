@@ -3,4 +3,3 @@ pub mod Words
 pub mod Report
 pub mod Text
 pub mod Inside
-pub mod Examples
