@@ -8,7 +8,7 @@ use Rattle.sheet.specs.Constants.{the-version, most-frames}
 use Rattle.records.specs.Rows.{total}
 use Rattle.records.specs.Faces.{ends, row-has-slots, taken-row}
 use Rattle.sheet.specs.Fields.{fixed-widths, frame-widths}
-use Rattle.sheet.specs.Tasks.{record-of, blank-record, set-with, blank-set}
+use Rattle.sheet.specs.Tasks.{record-of, blank-record, set-with}
 use Rattle.sheet.specs.Layout.{header-in, behind-header, frame-count-in, record-width, task-at-start, tasks-in}
 use Rattle.lent.specs.Checks.{Check, _⇒_}
 use Rattle.sheet.specs.Admission.{decided, policy-check, task-count-check, frame-count-check}
