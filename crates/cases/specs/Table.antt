@@ -76,6 +76,7 @@ given c (text letters) = text (report (sheet-of (c .policy) (c .tasks)))
 unfoldable pub Agrees : List Case → Type 0
 Agrees cases = map (λ c. map (given c) (c .expects)) cases ≡ map (λ c. c .expects) cases
 
+-- case F's report, letter by letter:
 -- holds 2
 -- 0 10 4 2 4
 -- 1 20 20 0 7

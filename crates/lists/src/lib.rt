@@ -18,14 +18,13 @@ use sheet::Task;
 use sheet::TaskSet;
 use sheet::Written;
 
-// The count of every list that is too long.
+// Every list that is too long counts as seventeen.
 const TOO_MANY: usize = Sheet::TASK_ROOM + 1;
 
 // A set for a list of n records, with none of them in it yet.
 fn opened(policy: u32, n: usize) -> TaskSet
     ensures { λ r. ⌜ r ≡ opened-of policy n ⌝ }
 {
-    // a list that is too long counts as seventeen
     let count = sheet::in_use(n, TOO_MANY) as u32;
     TaskSet {
         policy: policy,
