@@ -13,8 +13,8 @@ use Rattle.sheet.specs.declared.Refusal.the-variants.{Room}
 use Rattle.analysis.specs.Times.{number-at, place-of}
 use Rattle.analysis.specs.Findings.{past-end, finding-in, numbers-found, times-by-number}
 use Rattle.analysis.specs.Inside.Numbered.{Numbered}
-use Rattle.analysis.specs.Inside.Delivery.{delivering, delivered-outcome, delivered}
-use Rattle.analysis.specs.declared.Outcome.the-variants.{Refused}
+use Rattle.analysis.specs.Inside.Delivery.{decision-in, delivering, delivered-decision, delivered}
+use Rattle.analysis.specs.Answers.{refused-decision}
 use Rattle.analysis.specs.declared.Analysis.{Analysis}
 use Rattle.analysis.specs.declared.Finding.{Finding}
 use Rattle.analysis.proofs.ByNumber.{Stands, stands-more, all-stand, turn-length}
@@ -53,19 +53,19 @@ module _ (a : Analysis) (h : Numbered a) where
   unfolding times-by-number
   by-number-length = turn-length (λ i. finding-in a (place-found i) .times) most-frames 0 n (λ i l. h .eight (place-found i) (place-found-in i (omega arith)))
 
-  pub no-room : (room : List ℕ) → length room < most-frames * n → (Refused Room ≡ delivered-outcome a room) × (room ≡ delivered a room)
-  unfolding delivered-outcome delivered delivering
-  no-room room l = turned-tells Room Refused (delivering a) room (by-room Room Refused (delivering a) room no-check (rw by-number-length l))
+  pub no-room : (room : List ℕ) → length room < most-frames * n → (refused-decision Room ≡ delivered-decision a room) × (room ≡ delivered a room)
+  unfolding delivered-decision delivered delivering
+  no-room room l = turned-tells Room refused-decision (delivering a) room (by-room Room refused-decision (delivering a) room no-check (rw by-number-length l))
 
   module _ (room : List ℕ) (enough : most-frames * n ≤ length room) where
     pub numbers-more : (now : List ℕ) (p : ℕ) → p < n → AtNumbers a room now p
         → AtNumbers a room (take (most-frames * finding-in a p .number) now ++ finding-in a p .times ++ drop (most-frames * finding-in a p .number + most-frames) now) (p + 1)
     numbers-more now p l s = stands-more 0 most-frames n (λ p. finding-in a p .number) (λ p. finding-in a p .times) number-below numbers-apart (h .eight) room enough now p l s
 
-    pub all-numbers : (now : List ℕ) → AtNumbers a room now n → (a .outcome ≡ delivered-outcome a room) × (now ≡ delivered a room)
-    unfolding delivered-outcome delivered delivering laid times-by-number
+    pub all-numbers : (now : List ℕ) → AtNumbers a room now n → (decision-in a ≡ delivered-decision a room) × (now ≡ delivered a room)
+    unfolding delivered-decision delivered delivering laid times-by-number
     all-numbers now s =
-        let d = done-tells Room Refused (delivering a) room (done Room Refused (delivering a) room no-check (rw by-number-length enough)) in (
+        let d = done-tells Room refused-decision (delivering a) room (done Room refused-decision (delivering a) room no-check (rw by-number-length enough)) in (
           d .0,
           all-stand 0 most-frames n (λ p. finding-in a p .number) (λ p. finding-in a p .times) number-below numbers-apart (h .eight) room enough
               place-found place-found-in number-found-back now s ∙ ap (λ (m : ℕ). times-by-number a ++ drop m room) (sym by-number-length) ∙ d .1,

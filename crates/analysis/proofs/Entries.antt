@@ -39,13 +39,13 @@ use Rattle.order.specs.declared.Ordered.{Ordered}
 use Rattle.order.proofs.Laws.{ordered-admitted, ordered-tasks, ordered-length, ordered-at, order-of-length}
 use Rattle.analysis.specs.Times.{verdict-number, outcome-of, number-at, place-of, slots-of, slots-from, times-of}
 use Rattle.analysis.specs.Findings.{findings-of, finding-at, findings-from, past-end, finding-in, numbers-found, in-turn, times-by-number}
-use Rattle.analysis.specs.Answers.{refused-analysis, analysis-by, set-analysis, sheet-analysis, analysing, set-analysing, set-outcome, set-left, sheet-analysing, sheet-outcome, sheet-left}
+use Rattle.analysis.specs.Answers.{refused-decision, refused-analysis, analysis-by, set-analysis, sheet-analysis, analysing, set-analysing, set-decision, set-left, sheet-analysing, sheet-decision, sheet-left}
 use Rattle.analysis.specs.Inside.Steps.{RightlyJudged, ShapesStand, numbers-of}
 use Rattle.analysis.specs.Inside.Numbered.{Numbered}
-use Rattle.analysis.specs.Inside.Delivery.{delivering, delivered-outcome, delivered}
+use Rattle.analysis.specs.Inside.Delivery.{delivering, delivered-decision, delivered}
 use Rattle.analysis.specs.declared.Outcome.{Outcome}
-use Rattle.analysis.specs.declared.Outcome.the-variants.{Refused}
 use Rattle.analysis.specs.declared.Analysis.{Analysis}
+use Rattle.analysis.specs.declared.Decision.{Decision}
 use Rattle.analysis.specs.declared.Finding.{Finding}
 use native.Mathlib.Decide.{decLt}
 use Rattle.sheet.proofs.InFields.{Each, no-task, task-more, FramesCounted}
@@ -242,39 +242,39 @@ module _ (j : Judged) (s : List ℕ) (e : j ≡ sheet-judged s) where
 
 -- What an analysis delivers is what the call answers and leaves.
 module _ (cs : List (Check Refusal)) (policy : ℕ) (tasks : List Task) (room : List ℕ) where
-  abbrev call : Call Refusal ℕ Outcome
+  abbrev call : Call Refusal ℕ Decision
   call = analysing cs policy tasks
 
   admitted-delivers : decided cs ≡ Admitted
-      → (delivered-outcome (analysis-by Admitted policy tasks) room ≡ answered Room Refused call room)
+      → (delivered-decision (analysis-by Admitted policy tasks) room ≡ answered Room refused-decision call room)
       × (delivered (analysis-by Admitted policy tasks) room ≡ left-after Room call room)
-  unfolding delivered-outcome delivered delivering analysing answered left-after refusal-of first-refusal analysis-by
+  unfolding delivered-decision delivered delivering analysing answered left-after refusal-of first-refusal analysis-by
   admitted-delivers e = rw (none-first cs _ (none-applies cs e), by-number-is policy tasks) (refl, refl)
 
   refused-delivers : (r : Refusal) → decided cs ≡ refused r
-      → (delivered-outcome (refused-analysis r) room ≡ answered Room Refused call room) × (delivered (refused-analysis r) room ≡ left-after Room call room)
-  unfolding analysing delivered-outcome delivered delivering first-refusal refused-analysis times-by-number in-turn laid
+      → (delivered-decision (refused-analysis r) room ≡ answered Room refused-decision call room) × (delivered (refused-analysis r) room ≡ left-after Room call room)
+  unfolding analysing delivered-decision delivered delivering first-refusal refused-analysis times-by-number in-turn laid
   refused-delivers r e =
-      let t = by-checks Room Refused call room r (one-applies cs r e) in
-      let d = done Room Refused (delivering (refused-analysis r)) room refl zero-le in
+      let t = by-checks Room refused-decision call room r (one-applies cs r e) in
+      let d = done Room refused-decision (delivering (refused-analysis r)) room refl zero-le in
       (d .answer ∙ sym (t .answer), d .holds ∙ sym (t .unchanged))
 
-  delivers : (delivered-outcome (analysis-by (decided cs) policy tasks) room ≡ answered Room Refused call room)
+  delivers : (delivered-decision (analysis-by (decided cs) policy tasks) room ≡ answered Room refused-decision call room)
       × (delivered (analysis-by (decided cs) policy tasks) room ≡ left-after Room call room)
   unfolding analysis-by
   delivers = go (decided cs) refl
     where
       go : (a : Answer) → decided cs ≡ a
-          → (delivered-outcome (analysis-by a policy tasks) room ≡ answered Room Refused call room) × (delivered (analysis-by a policy tasks) room ≡ left-after Room call room)
+          → (delivered-decision (analysis-by a policy tasks) room ≡ answered Room refused-decision call room) × (delivered (analysis-by a policy tasks) room ≡ left-after Room call room)
       go Admitted e = admitted-delivers e
       go (refused r) e = refused-delivers r e
 
 pub set-delivers : (s : TaskSet) (room : List ℕ)
-    → (delivered-outcome (set-analysis s) room ≡ set-outcome s room) × (delivered (set-analysis s) room ≡ set-left s room)
-unfolding set-analysis set-outcome set-left set-analysing admission
+    → (delivered-decision (set-analysis s) room ≡ set-decision s room) × (delivered (set-analysis s) room ≡ set-left s room)
+unfolding set-analysis set-decision set-left set-analysing admission
 set-delivers s room = delivers (list-checks (s .policy) (s .«task_count») (records-of s)) (s .policy) (map task-in (records-of s)) room
 
 pub sheet-delivers : (s room : List ℕ)
-    → (delivered-outcome (sheet-analysis s) room ≡ sheet-outcome s room) × (delivered (sheet-analysis s) room ≡ sheet-left s room)
-unfolding sheet-analysis sheet-outcome sheet-left sheet-analysing
+    → (delivered-decision (sheet-analysis s) room ≡ sheet-decision s room) × (delivered (sheet-analysis s) room ≡ sheet-left s room)
+unfolding sheet-analysis sheet-decision sheet-left sheet-analysing
 sheet-delivers s room = delivers (sheet-checks s) (policy-of s) (tasks-of s) room

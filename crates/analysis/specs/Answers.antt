@@ -24,6 +24,7 @@ use Rattle.order.specs.declared.Blocker.the-variants.{At, Nobody}
 use Rattle.analysis.specs.declared.Outcome.{Outcome}
 use Rattle.analysis.specs.declared.Outcome.the-variants.{Holds, Missed, Refused}
 use Rattle.analysis.specs.declared.Analysis.{Analysis}
+use Rattle.analysis.specs.declared.Decision.{Decision}
 
 -- the blocker's number; none has the number behind the last task's
 abbrev pub blocker-code : Blocker → ℕ
@@ -71,26 +72,34 @@ sheet-analysis s = analysis-by (decided (sheet-checks s)) (policy-of s) (tasks-o
 
 -- ---- times to lent numbers
 
--- the analysis of tasks that these checks may turn away: it writes their times and answers their outcome
-unfoldable pub analysing : List (Check Refusal) → ℕ → List Task → Call Refusal ℕ Outcome
-analysing checks policy tasks = record { checks = checks; writes = times-of policy tasks; says = outcome-of policy tasks }
+-- what is decided of tasks that were analysed: their outcome, and how many they are
+abbrev pub decision : ℕ → List Task → Decision
+decision policy tasks = record { outcome = outcome-of policy tasks; «task_count» = length tasks }
+
+-- and of those that were turned away: of none
+abbrev pub refused-decision : Refusal → Decision
+refused-decision r = record { outcome = Refused r; «task_count» = 0 }
+
+-- the analysis of tasks that these checks may turn away: it writes their times and answers what is decided
+unfoldable pub analysing : List (Check Refusal) → ℕ → List Task → Call Refusal ℕ Decision
+analysing checks policy tasks = record { checks = checks; writes = times-of policy tasks; says = decision policy tasks }
 
 -- of a set by value
-unfoldable pub set-analysing : TaskSet → Call Refusal ℕ Outcome
+unfoldable pub set-analysing : TaskSet → Call Refusal ℕ Decision
 set-analysing s = analysing (list-checks (s .policy) (s .«task_count») (records-of s)) (s .policy) (map task-in (records-of s))
 
-unfoldable pub set-outcome : TaskSet → List ℕ → Outcome
-set-outcome s room = answered Room Refused (set-analysing s) room
+unfoldable pub set-decision : TaskSet → List ℕ → Decision
+set-decision s room = answered Room refused-decision (set-analysing s) room
 
 unfoldable pub set-left : TaskSet → List ℕ → List ℕ
 set-left s room = left-after Room (set-analysing s) room
 
 -- of a sheet
-unfoldable pub sheet-analysing : List ℕ → Call Refusal ℕ Outcome
+unfoldable pub sheet-analysing : List ℕ → Call Refusal ℕ Decision
 sheet-analysing s = analysing (sheet-checks s) (policy-of s) (tasks-of s)
 
-unfoldable pub sheet-outcome : List ℕ → List ℕ → Outcome
-sheet-outcome s room = answered Room Refused (sheet-analysing s) room
+unfoldable pub sheet-decision : List ℕ → List ℕ → Decision
+sheet-decision s room = answered Room refused-decision (sheet-analysing s) room
 
 unfoldable pub sheet-left : List ℕ → List ℕ → List ℕ
 sheet-left s room = left-after Room (sheet-analysing s) room

@@ -5,8 +5,9 @@ ghost use Prim.Native.Nat.{_+_, _≤_};
 ghost use lib.ListN.{length, take, drop};
 ghost use Rattle.sheet.specs.Constants.{most-frames};
 ghost use Rattle.analysis.specs.Inside.Numbered.{Numbered};
-ghost use Rattle.analysis.specs.Inside.Delivery.{delivered-outcome, delivered};
+ghost use Rattle.analysis.specs.Inside.Delivery.{delivered-decision, delivered};
 use crate::Analysis;
+use crate::Decision;
 use crate::Outcome;
 use sheet::Refusal;
 use sheet::Sheet;
@@ -22,13 +23,16 @@ fn put_times(times: &mut [u32], at: usize, row: [u32; Sheet::FRAME_ROOM])
 }
 
 // Nothing is touched where there is no room for all times.
-pub fn deliver(a: Analysis, times: &mut [u32]) -> Outcome
+pub fn deliver(a: Analysis, times: &mut [u32]) -> Decision
     requires { ⌜ Numbered a ⌝ }
-    ensures { λ r. ⌜ (r ≡ delivered-outcome a (now (times .entry))) × (now (times .exit) ≡ delivered a (now (times .entry))) ⌝ }
+    ensures { λ r. ⌜ (r ≡ delivered-decision a (now (times .entry))) × (now (times .exit) ≡ delivered a (now (times .entry))) ⌝ }
 {
     let count = a.task_count as usize;
     if times.len() < Sheet::FRAME_ROOM * count {
-        return Outcome::Refused(Refusal::Room);
+        return Decision {
+            outcome: Outcome::Refused(Refusal::Room),
+            task_count: 0,
+        };
     }
     for p in 0..count {
         let f = a.findings[p];
@@ -36,5 +40,8 @@ pub fn deliver(a: Analysis, times: &mut [u32]) -> Outcome
         let row = f.times;
         put_times(times, Sheet::FRAME_ROOM * number, row);
     }
-    a.outcome
+    Decision {
+        outcome: a.outcome,
+        task_count: a.task_count,
+    }
 }

@@ -6,7 +6,7 @@ ghost use Rattle.sheet.specs.Admission.{admission};
 ghost use Rattle.sheet.specs.declared.Answer.the-variants.{Admitted};
 ghost use Rattle.admission.specs.Judged.{shapes-of};
 ghost use Rattle.analysis.specs.Findings.{no-finding};
-ghost use Rattle.analysis.specs.Answers.{blocker-code, code, refused-analysis, analysis-by, set-analysis, sheet-analysis, set-outcome, set-left, sheet-outcome, sheet-left};
+ghost use Rattle.analysis.specs.Answers.{blocker-code, code, refused-analysis, analysis-by, set-analysis, sheet-analysis, set-decision, set-left, sheet-decision, sheet-left};
 ghost use Rattle.analysis.specs.Inside.Steps.{RightlyJudged};
 
 mod delivery;
@@ -45,6 +45,12 @@ pub struct Analysis {
     pub outcome: Outcome,
     pub task_count: u32,
     pub findings: [Finding; Sheet::TASK_ROOM],
+}
+
+// What is decided of tasks whose times go to lent numbers: the outcome, and how many tasks were analysed.
+pub struct Decision {
+    pub outcome: Outcome,
+    pub task_count: u32,
 }
 
 impl Finding {
@@ -152,15 +158,15 @@ pub fn analysis_of_sheet(bytes: &[u8]) -> Analysis
 }
 
 // Analyses a set by value; its times go to lent numbers.
-pub fn analyse_set(set: TaskSet, times: &mut [u32]) -> Outcome
-    ensures { λ r. ⌜ (r ≡ set-outcome set (now (times .entry))) × (now (times .exit) ≡ set-left set (now (times .entry))) ⌝ }
+pub fn analyse_set(set: TaskSet, times: &mut [u32]) -> Decision
+    ensures { λ r. ⌜ (r ≡ set-decision set (now (times .entry))) × (now (times .exit) ≡ set-left set (now (times .entry))) ⌝ }
 {
     delivery::deliver(analysis_of_set(set), times)
 }
 
 // Analyses a sheet; its times go to lent numbers.
-pub fn analyse_sheet(bytes: &[u8], times: &mut [u32]) -> Outcome
-    ensures { λ r. ⌜ (r ≡ sheet-outcome (now (bytes .entry)) (now (times .entry))) × (now (times .exit) ≡ sheet-left (now (bytes .entry)) (now (times .entry))) ⌝ }
+pub fn analyse_sheet(bytes: &[u8], times: &mut [u32]) -> Decision
+    ensures { λ r. ⌜ (r ≡ sheet-decision (now (bytes .entry)) (now (times .entry))) × (now (times .exit) ≡ sheet-left (now (bytes .entry)) (now (times .entry))) ⌝ }
 {
     delivery::deliver(analysis_of_sheet(bytes), times)
 }

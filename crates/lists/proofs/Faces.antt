@@ -30,9 +30,8 @@ use Rattle.sheet.specs.declared.Written.the-variants.{TurnedAway as not-written
 use Rattle.sheet.proofs.Carried.{by-reading, reading-answer}
 use Rattle.sheet.proofs.Checks.{none-applies, one-applies}
 use Rattle.sheet.proofs.Records.{records-with}
-use Rattle.analysis.specs.Times.{outcome-of, times-of}
-use Rattle.analysis.specs.Answers.{analysing, set-analysing, set-outcome, set-left}
-use Rattle.analysis.specs.declared.Outcome.the-variants.{Refused as not-analysed}
+use Rattle.analysis.specs.Times.{times-of}
+use Rattle.analysis.specs.Answers.{decision, refused-decision, analysing, set-analysing, set-decision, set-left}
 use Rattle.lists.specs.Lists.{gathered-of, scattered-of}
 use Rattle.lists.specs.Faces.{reading-list, list-read, list-filled, writing-list, list-written, list-left, analysing-list, list-analysed, list-times}
 use Rattle.lists.specs.Inside.Parts.{read-answer}
@@ -115,13 +114,13 @@ module _ (policy : ℕ) (list : List Task) (room : List ℕ) where
   pub left-gathered : left (gathered-of policy list) room ≡ list-left policy list room
   left-gathered = both-written .1
 
-  both-analysed : (set-outcome (gathered-of policy list) room ≡ list-analysed policy list room) × (set-left (gathered-of policy list) room ≡ list-times policy list room)
-  unfolding set-outcome set-left set-analysing list-analysed list-times analysing-list analysing gathered-of
+  both-analysed : (set-decision (gathered-of policy list) room ≡ list-analysed policy list room) × (set-left (gathered-of policy list) room ≡ list-times policy list room)
+  unfolding set-decision set-left set-analysing list-analysed list-times analysing-list analysing gathered-of
   both-analysed =
-      as-gathered policy not-analysed (λ records. times-of policy (map task-in records)) (λ records. outcome-of policy (map task-in records)) room list
+      as-gathered policy refused-decision (λ records. times-of policy (map task-in records)) (λ records. decision policy (map task-in records)) room list
 
-  pub outcome-gathered : set-outcome (gathered-of policy list) room ≡ list-analysed policy list room
-  outcome-gathered = both-analysed .0
+  pub decision-gathered : set-decision (gathered-of policy list) room ≡ list-analysed policy list room
+  decision-gathered = both-analysed .0
 
   pub times-gathered : set-left (gathered-of policy list) room ≡ list-times policy list room
   times-gathered = both-analysed .1

@@ -3,6 +3,4 @@ pub mod Laws
 pub mod Walk
 pub mod Records
 pub mod Faces
-pub mod Codes
 pub mod Handed
-pub mod Numbered

@@ -18,9 +18,9 @@ use Rattle.sheet.specs.declared.Task.{Task}
 use Rattle.sheet.specs.declared.TaskSet.{TaskSet}
 use Rattle.sheet.specs.declared.Reading.{Reading}
 use Rattle.sheet.specs.declared.Written.{Written}
-use Rattle.analysis.specs.declared.Outcome.{Outcome}
-use Rattle.analysis.proofs.Outcome as Oc
-use Rattle.analysis.proofs.Outcome.Laws as Oc′
+use Rattle.analysis.specs.declared.Decision.{Decision}
+use Rattle.analysis.proofs.Decision as Dc
+use Rattle.analysis.proofs.Decision.Laws as Dc′
 use Rattle.lists.specs.declared.ListRead.{ListRead}
 use Rattle.lists.proofs.ListRead as Lr
 use Rattle.lists.proofs.ListRead.Laws as Lr′
@@ -73,11 +73,11 @@ list-read-val = EL.val Lr.the-type Lr′.the-laws
 pub list-read-tells : Tells Lr.the-row (Is Lr.the-row) (λ r. list-read-val r ∷ [])
 list-read-tells = EL.tells Lr.the-type Lr′.the-laws
 
-abbrev pub outcome-val : Outcome → Val
-outcome-val = EL.val Oc.the-type Oc′.the-laws
+abbrev pub decision-val : Decision → Val
+decision-val = LL.val Dc.the-type Dc′.the-laws
 
-pub outcome-tells : Tells Oc.the-row (Is Oc.the-row) (λ r. outcome-val r ∷ [])
-outcome-tells = EL.tells Oc.the-type Oc′.the-laws
+pub decision-tells : Tells Dc.the-row (Is Dc.the-row) (λ d. decision-val d ∷ [])
+decision-tells = LL.tells Dc.the-type Dc′.the-laws
 
 abbrev pub written-val : Written → Val
 written-val = EL.val Wr.the-type Wr′.the-laws
@@ -101,8 +101,8 @@ module _ {M : Type 1} (𝓤 : URA M) (H : Heap 𝓤) (A : Atoms 𝓤) where
   pub list-read-makes : Makes 𝓤 H A Lr.the-row (Is Lr.the-row)
   list-read-makes = EL.makes Lr.the-type Lr′.the-plain 𝓤 H A
 
-  pub outcome-makes : Makes 𝓤 H A Oc.the-row (Is Oc.the-row)
-  outcome-makes = EL.makes Oc.the-type Oc′.the-plain 𝓤 H A
+  pub decision-makes : Makes 𝓤 H A Dc.the-row (Is Dc.the-row)
+  decision-makes = LL.makes Dc.the-type Dc′.the-plain 𝓤 H A
 
   pub written-makes : Makes 𝓤 H A Wr.the-row (Is Wr.the-row)
   written-makes = EL.makes Wr.the-type Wr′.the-plain 𝓤 H A
@@ -114,8 +114,8 @@ module _ {M : Type 1} (𝓤 : URA M) (H : Heap 𝓤) (A : Atoms 𝓤) where
     pub list-read-typed : (r : ListRead) → Is Lr.the-row r (list-read-val r ∷ []) → Typed (Lr.the-row .mir) (list-read-val r ∷ [])
     list-read-typed r is = EL.lawful Lr.the-type Lr′.the-laws 𝓤 H A W tt .typed r _ is
 
-    pub outcome-typed : (r : Outcome) → Is Oc.the-row r (outcome-val r ∷ []) → Typed (Oc.the-row .mir) (outcome-val r ∷ [])
-    outcome-typed r is = EL.lawful Oc.the-type Oc′.the-laws 𝓤 H A W tt .typed r _ is
+    pub decision-typed : (d : Decision) → Is Dc.the-row d (decision-val d ∷ []) → Typed (Dc.the-row .mir) (decision-val d ∷ [])
+    decision-typed d is = LL.lawful Dc.the-type Dc′.the-laws 𝓤 H A W .typed d _ is
 
     pub written-typed : (w : Written) → Is Wr.the-row w (written-val w ∷ []) → Typed (Wr.the-row .mir) (written-val w ∷ [])
     written-typed w is = EL.lawful Wr.the-type Wr′.the-laws 𝓤 H A W tt .typed w _ is
@@ -132,5 +132,5 @@ module _ {M : Type 1} (𝓤 : URA M) (H : Heap 𝓤) (A : Atoms 𝓤) where
 abbrev pub written-value : Value
 written-value = record { row = Wr.the-row; mir = Wr′.mir; val = written-val; tells = written-tells; makes = written-makes; typed = λ 𝓤 H A W w is. written-typed 𝓤 H A W w is .0 }
 
-abbrev pub outcome-value : Value
-outcome-value = record { row = Oc.the-row; mir = Oc′.mir; val = outcome-val; tells = outcome-tells; makes = outcome-makes; typed = λ 𝓤 H A W w is. outcome-typed 𝓤 H A W w is .0 }
+abbrev pub decision-value : Value
+decision-value = record { row = Dc.the-row; mir = Dc′.mir; val = decision-val; tells = decision-tells; makes = decision-makes; typed = λ 𝓤 H A W d is. decision-typed 𝓤 H A W d is .0 }

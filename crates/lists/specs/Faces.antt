@@ -13,9 +13,8 @@ use Rattle.sheet.specs.declared.Refusal.the-variants.{Room}
 use Rattle.sheet.specs.declared.Written.{Written}
 use Rattle.sheet.specs.declared.Written.the-variants.{Bytes}
 use Rattle.sheet.specs.declared.Written.the-variants.{TurnedAway as not-written}
-use Rattle.analysis.specs.Answers.{analysing}
-use Rattle.analysis.specs.declared.Outcome.{Outcome}
-use Rattle.analysis.specs.declared.Outcome.the-variants.{Refused as not-analysed}
+use Rattle.analysis.specs.Answers.{refused-decision, analysing}
+use Rattle.analysis.specs.declared.Decision.{Decision}
 use Rattle.lists.specs.declared.ListRead.{ListRead}
 use Rattle.lists.specs.declared.ListRead.the-variants.{Set}
 use Rattle.lists.specs.declared.ListRead.the-variants.{TurnedAway as not-read}
@@ -56,11 +55,11 @@ list-left policy list room = left-after Room (writing-list policy list) room
 
 -- ---- a list analysed
 
-unfoldable pub analysing-list : ℕ → List Task → Call Refusal ℕ Outcome
+unfoldable pub analysing-list : ℕ → List Task → Call Refusal ℕ Decision
 analysing-list policy list = analysing (list-checks policy (length list) list) policy (map task-in list)
 
-unfoldable pub list-analysed : ℕ → List Task → List ℕ → Outcome
-list-analysed policy list room = answered Room not-analysed (analysing-list policy list) room
+unfoldable pub list-analysed : ℕ → List Task → List ℕ → Decision
+list-analysed policy list room = answered Room refused-decision (analysing-list policy list) room
 
 unfoldable pub list-times : ℕ → List Task → List ℕ → List ℕ
 list-times policy list room = left-after Room (analysing-list policy list) room

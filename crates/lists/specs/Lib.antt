@@ -1,5 +1,4 @@
 -- What the lists' contracts cite.
 pub mod Lists
 pub mod Faces
-pub mod Codes
 pub mod Inside

@@ -1,15 +1,14 @@
 // The workbench's lists of task records: a lent list gathered into a set by value, a set scattered into a lent list,
-// and over these two the calls that read into, write and analyse a lent list, for Rattle and for C.
+// and over these two the calls that read into, write and analyse a lent list.
 ghost use mathlib.Core.Path.{_≡_};
-ghost use Prim.Native.Nat.{_<_, _^_};
+ghost use Prim.Native.Nat.{_<_};
 ghost use lib.ListN.{getD};
 ghost use Rattle.sheet.specs.Constants.{most-tasks};
 ghost use Rattle.sheet.specs.Tasks.{no-record};
 ghost use Rattle.lists.specs.Lists.{gathered-of, scattered-of};
-ghost use Rattle.lists.specs.Codes.{refusal-code, written-code, read-code, outcome-code};
 ghost use Rattle.lists.specs.Faces.{list-read, list-filled, list-written, list-left, list-analysed, list-times};
 ghost use Rattle.lists.specs.Inside.Parts.{opened-of, with-record, to-fill, read-answer};
-use analysis::Outcome;
+use analysis::Decision;
 use sheet::Answer;
 use sheet::Reading;
 use sheet::Refusal;
@@ -139,75 +138,8 @@ pub fn write_list(policy: u32, list: &[Task], sheet: &mut [u8]) -> Written
 }
 
 // A lent list analysed, its times to lent numbers.
-pub fn analyse_list(policy: u32, list: &[Task], times: &mut [u32]) -> Outcome
+pub fn analyse_list(policy: u32, list: &[Task], times: &mut [u32]) -> Decision
     ensures { λ r. ⌜ (r ≡ list-analysed policy (now (list .entry)) (now (times .entry))) × (now (times .exit) ≡ list-times policy (now (list .entry)) (now (times .entry))) ⌝ }
 {
     analysis::analyse_set(gathered(policy, list), times)
-}
-
-// One number for each answer, for C: refusals below the one, policies below the other.
-const ABOVE_REFUSALS: u32 = 32;
-
-const ABOVE_POLICIES: u32 = 4;
-
-fn refusal_code(why: Refusal) -> u32
-    requires { ⌜ refusal-code why < 2 ^ 32 ⌝ }
-    ensures { λ r. ⌜ r ≡ refusal-code why ⌝ }
-{
-    why.number() + ABOVE_REFUSALS * why.task()
-}
-
-fn written_code(written: Written) -> u32
-    requires { ⌜ written-code written < 2 ^ 32 ⌝ }
-    ensures { λ r. ⌜ r ≡ written-code written ⌝ }
-{
-    match written {
-        Written::Bytes(n) => ABOVE_REFUSALS * n as u32,
-        Written::TurnedAway(why) => refusal_code(why),
-    }
-}
-
-fn read_code(read: ListRead) -> u32
-    requires { ⌜ read-code read < 2 ^ 32 ⌝ }
-    ensures { λ r. ⌜ r ≡ read-code read ⌝ }
-{
-    match read {
-        ListRead::Set(policy, count) => ABOVE_REFUSALS * (policy + ABOVE_POLICIES * count),
-        ListRead::TurnedAway(why) => refusal_code(why),
-    }
-}
-
-fn outcome_code(outcome: Outcome) -> u32
-    requires { ⌜ outcome-code outcome < 2 ^ 32 ⌝ }
-    ensures { λ r. ⌜ r ≡ outcome-code outcome ⌝ }
-{
-    match outcome {
-        Outcome::Holds => 0,
-        Outcome::Missed(_, _) => ABOVE_REFUSALS * outcome.code() as u32,
-        Outcome::Refused(why) => refusal_code(why),
-    }
-}
-
-// For C: a sheet read into the workbench's own records.
-#[no_mangle]
-pub extern "C" fn burrbeech_read_list(sheet: &[u8], list: &mut [Task]) -> u32
-    ensures { λ r. ⌜ (r ≡ read-code (list-read (now (sheet .entry)) (now (list .entry)))) × (now (list .exit) ≡ list-filled (now (sheet .entry)) (now (list .entry))) ⌝ }
-{
-    read_code(read_list(sheet, list))
-}
-
-// For C: the workbench's own records written to a sheet.
-#[no_mangle]
-pub extern "C" fn burrbeech_write_list(policy: u32, list: &[Task], sheet: &mut [u8]) -> u32
-    ensures { λ r. ⌜ (r ≡ written-code (list-written policy (now (list .entry)) (now (sheet .entry)))) × (now (sheet .exit) ≡ list-left policy (now (list .entry)) (now (sheet .entry))) ⌝ }
-{
-    written_code(write_list(policy, list, sheet))
-}
-
-// For C: the workbench's own records analysed.
-#[no_mangle]
-pub extern "C" fn burrbeech_analyse_list(policy: u32, list: &[Task], times: &mut [u32]) -> u32
-    ensures { λ r. ⌜ (r ≡ outcome-code (list-analysed policy (now (list .entry)) (now (times .entry)))) × (now (times .exit) ≡ list-times policy (now (list .entry)) (now (times .entry))) ⌝ }
-{
-    outcome_code(analyse_list(policy, list, times))
 }

@@ -6,3 +6,4 @@ pub mod Lines
 pub mod Findings
 pub mod Whole
 pub mod Reported
+pub mod Printed

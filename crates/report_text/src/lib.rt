@@ -8,12 +8,14 @@ ghost use Rattle.report_text.specs.Words.{decimal, line};
 ghost use Rattle.report_text.specs.Report.{blocker-word, first-line, report};
 ghost use Rattle.report_text.specs.Inside.TextPut.{TextPut, spaced, number-room, head-room, line-room, first-room};
 ghost use Rattle.report_text.specs.Inside.Lines.{finding-line, finding-lines, Printable, AllPrintable};
-ghost use Rattle.report_text.specs.Text.{text-of};
+ghost use Rattle.report_text.specs.Text.{text-of, report-written, report-left};
 use analysis::Analysis;
 use analysis::Finding;
 use analysis::Outcome;
 use order::Blocker;
+use sheet::Refusal;
 use sheet::Sheet;
+use sheet::Written;
 
 // One byte more than the greatest sheet has: more need not be read to tell that a sheet is too long.
 pub const ENOUGH: usize = Sheet::GREATEST_SIZE + 1;
@@ -192,4 +194,17 @@ pub fn report_text(sheet: &[u8]) -> Text
         length: end,
         bytes: bytes,
     }
+}
+
+// The report on a sheet, its text to lent bytes.
+pub fn write_report(sheet: &[u8], memory: &mut [u8]) -> Written
+    ensures { λ r. ⌜ (r ≡ report-written (now (sheet .entry)) (now (memory .entry))) × (now (memory .exit) ≡ report-left (now (sheet .entry)) (now (memory .entry))) ⌝ }
+{
+    let text = report_text(sheet);
+    let length = text.length;
+    if memory.len() < length {
+        return Written::TurnedAway(Refusal::Room);
+    }
+    let bytes = text.bytes;
+    Written::Bytes(put_word(memory, 0, &bytes[..length]))
 }

@@ -5,6 +5,7 @@ use mathlib.Core.Logic.{_↔_}
 use mathlib.Core.Option.{none, some}
 use mathlib.Core.Path.{_≡_, refl, sym, ap, _∙_}
 use Prim.Native.Nat.{ℕ, _-_, _*_, _≤_, _<_}
+use native.Mathlib.Decide.{decLt}
 use native.Mathlib.Omega.{arith}
 use lib.Dec.{ltb}
 use lib.ListN.{length, replicate, length-append, length-map, length-replicate}
@@ -13,8 +14,8 @@ use Rattle.theory.specs.Tasks.{Task}
 use Rattle.theory.specs.Tasks.{Admitted as IsAdmitted}
 use Rattle.lent.specs.Checks.{Check, _⇒_, first-refusal}
 use Rattle.lent.specs.Lent.{Call, laid, refusal-of, answered, left-after}
-use Rattle.lent.proofs.Checks.{none-first, some-first}
-use Rattle.lent.proofs.Lent.{Told, turned-away, is-done, told, by-checks, done}
+use Rattle.lent.proofs.Checks.{no-check, none-first, some-first}
+use Rattle.lent.proofs.Lent.{Told, turned-away, is-done, told, by-checks, by-room, done}
 use Rattle.sheet.specs.Constants.{most-tasks, most-frames}
 use Rattle.sheet.specs.Refusals.{number-of}
 use Rattle.sheet.specs.Tasks.{task-in, record-of, records-of, blank-record}
@@ -37,17 +38,18 @@ use Rattle.sheet.proofs.Carried.{Carried, by-admission, by-reading, reading-ans
 use Rattle.sheet.proofs.Analysable.{admitted-set-is-admitted, admitted-sheet-is-admitted}
 use Rattle.order.specs.Order.{priority-order, ordered-set}
 use Rattle.analysis.specs.Times.{outcome-of, times-of}
-use Rattle.analysis.specs.Answers.{code, outcome-by, analysing, set-analysing, set-outcome, set-left, sheet-analysing, sheet-outcome, sheet-left}
+use Rattle.analysis.specs.Answers.{code, outcome-by, decision, refused-decision, analysing, set-analysing, set-decision, set-left, sheet-analysing, sheet-decision, sheet-left}
 use Rattle.analysis.specs.declared.Outcome.{Outcome}
 use Rattle.analysis.specs.declared.Outcome.the-variants.{Holds, Missed, Refused}
+use Rattle.analysis.specs.declared.Decision.{Decision}
 use Rattle.analysis.proofs.Entries.{times-long}
 use Rattle.analysis.proofs.Promises.{outcome-not-refused}
-use Rattle.lists.specs.Codes.{above-policies}
 use Rattle.lists.specs.Faces.{reading-list, list-read, list-filled, writing-list, list-written, list-left, analysing-list, list-analysed, list-times}
 use Rattle.lists.specs.declared.ListRead.{ListRead}
 use Rattle.lists.specs.declared.ListRead.the-variants.{Set}
 use Rattle.lists.specs.declared.ListRead.the-variants.{TurnedAway as not-read}
 use Rattle.report_text.specs.Report.{first-line, task-lines, lines-behind, report}
+use Rattle.report_text.specs.Text.{reporting, report-written, report-left}
 use Rattle.workbench.specs.Entry.{checking, entry-number, entry-left}
 use Rattle.workbench.proofs.Four.{length-four}
 use Rattle.signed.specs.Claims.{Kept, in-numbers, in-bytes, refusal-to}
@@ -60,21 +62,21 @@ pub record Sound (policy : ℕ) (tasks : List Task) : Type 0 where
   pub carried : Carried policy tasks
   pub admitted : IsAdmitted tasks
 
--- A call about these tasks is refused and leaves the memory as it was, or its outcome is that of the tasks and their times stand first.
-pub data Analysed (policy : ℕ) (tasks : List Task) (kept : Kept) (before : List ℕ) : Outcome → List ℕ → Type 0 where
-  is-refused : (why : Refusal) → Analysed policy tasks kept before (Refused why) before
+-- A call about these tasks is refused and leaves the memory as it was, or it decides of the tasks and their times stand first.
+pub data Analysed (policy : ℕ) (tasks : List Task) (kept : Kept) (before : List ℕ) : Decision → List ℕ → Type 0 where
+  is-refused : (why : Refusal) → Analysed policy tasks kept before (refused-decision why) before
   is-analysed : Sound policy tasks → length (stored kept (times-of policy tasks)) ≤ length before
-      → Analysed policy tasks kept before (outcome-of policy tasks) (laid (stored kept (times-of policy tasks)) before)
+      → Analysed policy tasks kept before (decision policy tasks) (laid (stored kept (times-of policy tasks)) before)
 
 module _ (checks : List (Check Refusal)) (policy : ℕ) (tasks : List Task) (before : List ℕ) (sound : first-refusal checks ≡ none → Sound policy tasks) where
-  abbrev call : Call Refusal ℕ Outcome
+  abbrev call : Call Refusal ℕ Decision
   call = analysing checks policy tasks
 
-  analysed : Analysed policy tasks in-numbers before (answered Room Refused call before) (left-after Room call before)
+  analysed : Analysed policy tasks in-numbers before (answered Room refused-decision call before) (left-after Room call before)
   unfolding analysing
-  analysed = go (told Room Refused call before)
+  analysed = go (told Room refused-decision call before)
     where
-      go : Told Room Refused call before → Analysed policy tasks in-numbers before (answered Room Refused call before) (left-after Room call before)
+      go : Told Room refused-decision call before → Analysed policy tasks in-numbers before (answered Room refused-decision call before) (left-after Room call before)
       go (turned-away r t) = rw (t .answer, t .unchanged) (is-refused r)
       go (is-done d) = rw (d .answer, d .holds) (is-analysed (sound (d .admitted)) (d .room))
 
@@ -92,25 +94,25 @@ sound-sheet s e =
 
 -- `analyse_set`
 pub set-entry : (s : TaskSet) (before : List ℕ) → length (s .tasks) ≡ most-tasks
-    → Analysed (s .policy) (map task-in (records-of s)) in-numbers before (set-outcome s before) (set-left s before)
-unfolding set-outcome set-left set-analysing
+    → Analysed (s .policy) (map task-in (records-of s)) in-numbers before (set-decision s before) (set-left s before)
+unfolding set-decision set-left set-analysing
 set-entry s before sixteen = analysed (list-checks (s .policy) (s .«task_count») (records-of s)) (s .policy) (map task-in (records-of s)) before (sound-set s sixteen)
 
 -- `analyse_sheet`
-pub sheet-entry : (s before : List ℕ) → Analysed (policy-of s) (tasks-of s) in-numbers before (sheet-outcome s before) (sheet-left s before)
-unfolding sheet-outcome sheet-left sheet-analysing
+pub sheet-entry : (s before : List ℕ) → Analysed (policy-of s) (tasks-of s) in-numbers before (sheet-decision s before) (sheet-left s before)
+unfolding sheet-decision sheet-left sheet-analysing
 sheet-entry s before = analysed (sheet-checks s) (policy-of s) (tasks-of s) before (sound-sheet s)
 
 -- `burrbeech_check_sheet`: the number of an outcome
 pub check-entry : (s before : List ℕ)
-    → (outcome : Outcome) × (entry-number s before ≡ code outcome) × Analysed (policy-of s) (tasks-of s) in-bytes before outcome (entry-left s before)
+    → (decided : Decision) × (entry-number s before ≡ code (decided .outcome)) × Analysed (policy-of s) (tasks-of s) in-bytes before decided (entry-left s before)
 unfolding entry-number entry-left checking
 check-entry s before = go (told Room number-of (checking s) before)
   where
     go : Told Room number-of (checking s) before
-        → (outcome : Outcome) × (entry-number s before ≡ code outcome) × Analysed (policy-of s) (tasks-of s) in-bytes before outcome (entry-left s before)
-    go (turned-away r t) = (Refused r, t .answer, rw (t .unchanged) (is-refused r))
-    go (is-done d) = (outcome-of (policy-of s) (tasks-of s), d .answer, rw (d .holds) (is-analysed (sound-sheet s (d .admitted)) (d .room)))
+        → (decided : Decision) × (entry-number s before ≡ code (decided .outcome)) × Analysed (policy-of s) (tasks-of s) in-bytes before decided (entry-left s before)
+    go (turned-away r t) = (refused-decision r, t .answer, rw (t .unchanged) (is-refused r))
+    go (is-done d) = (decision (policy-of s) (tasks-of s), d .answer, rw (d .holds) (is-analysed (sound-sheet s (d .admitted)) (d .room)))
 
 -- ---- lists
 
@@ -165,13 +167,15 @@ module _ (sheet : List ℕ) (before : List Record) where
       let d = done Room not-read (reading-list sheet) before (none-applies (sheet-checks sheet) (sym (reading-answer sheet) ∙ a)) (omega (arith, h, length-map (tasks-of sheet) record-of)) in
       (d .answer, d .holds)
 
--- the policy that was read is one of the known
+-- the policy that was read is one of the known, and the tasks are few
 pub known-read : (sheet : List ℕ) (before : List Record) (x : ListRead) (after : List Record) → Read sheet before x after
-    → (policy count : ℕ) → x ≡ Set policy count → policy < above-policies
+    → (policy count : ℕ) → x ≡ Set policy count → (policy < 256) × (count < 256)
 known-read sheet before x after (no-read why) policy count e = let z : _≡_ {A = ℕ} 0 1 = cc in let z : ⊥ = omega arith in absurd z
 known-read sheet before x after (is-read a fits) policy count e =
     let same : policy-of sheet ≡ policy = cc in
-    omega (arith, known-small (policy-of sheet) (by-reading sheet a .policy-known))
+    let tasks : length (tasks-of sheet) ≡ count = cc in
+    let c = by-reading sheet a in
+    (omega (arith, known-small (policy-of sheet) (c .policy-known)), omega (arith, c .few-tasks))
 
 -- `write_list` is refused and leaves the bytes as they were, or the list's sheet stands first.
 pub data Wrote (policy : ℕ) (list : List Record) (before : List ℕ) : Written → List ℕ → Type 0 where
@@ -234,12 +238,25 @@ report-entry s = go (decided (sheet-checks s)) refl
         rw (lines-printed (policy-of s) (tasks-of s) (outcome-of (policy-of s) (tasks-of s)) refl) (is-reported (sound-sheet s (none-applies (sheet-checks s) e)))
     go (turned why) e = unfold outcome-by lines-behind in rw (append-nil (first-line (Refused why) (length (tasks-of s)))) (no-report why)
 
+-- `write_report` is refused for want of room and leaves the bytes as they were, or the text stands first.
+pub data Printed (sheet before : List ℕ) : Written → List ℕ → Type 0 where
+  no-room : Printed sheet before (not-written Room) before
+  is-printed : length (report sheet) ≤ length before → Printed sheet before (Bytes (length (report sheet))) (laid (report sheet) before)
+
+pub print-entry : (sheet before : List ℕ) → Printed sheet before (report-written sheet before) (report-left sheet before)
+unfolding report-written report-left reporting
+print-entry sheet before = go (decLt (length before) (length (report sheet)))
+  where
+    go : Dec (length before < length (report sheet)) → Printed sheet before (report-written sheet before) (report-left sheet before)
+    go (yes h) = let t = by-room Room not-written (reporting sheet) before no-check h in rw (t .answer, t .unchanged) no-room
+    go (no h) = let d = done Room not-written (reporting sheet) before no-check (omega arith) in rw (d .answer, d .holds) (is-printed (omega arith))
+
 -- ---- a sheet that its own checks turn away
 
 module _ (sheet : List ℕ) (r : Refusal) (e : first-refusal (sheet-checks sheet) ≡ some r) where
-  pub sheet-turned : (before : List ℕ) → (sheet-outcome sheet before ≡ Refused r) × (sheet-left sheet before ≡ before)
-  unfolding sheet-outcome sheet-left sheet-analysing analysing
-  sheet-turned before = let t = by-checks Room Refused (sheet-analysing sheet) before r e in (t .answer, t .unchanged)
+  pub sheet-turned : (before : List ℕ) → (sheet-decision sheet before ≡ refused-decision r) × (sheet-left sheet before ≡ before)
+  unfolding sheet-decision sheet-left sheet-analysing analysing
+  sheet-turned before = let t = by-checks Room refused-decision (sheet-analysing sheet) before r e in (t .answer, t .unchanged)
 
   pub check-turned : (before : List ℕ) → (entry-number sheet before ≡ number-of r) × (entry-left sheet before ≡ before)
   unfolding entry-number entry-left checking
@@ -287,24 +304,34 @@ module _ {A X : Type 0} (refused : Refusal → X) (call : Call Refusal A X) (bef
     exactly : (why : Refusal) → (answered Room refused call before ≡ refused why) ↔ (refusal-to (decided (call .checks)) needs (length before) ≡ some why)
     exactly why = (λ e. sym which ∙ why-said why e, λ e. says-why why (which ∙ e))
 
+-- what is decided of tasks is no refusal, and refusals are told apart
+not-refused : (policy : ℕ) (tasks : List Task) (r : Refusal) → ¬ (decision policy tasks ≡ refused-decision r)
+not-refused policy tasks r e = outcome-not-refused policy tasks r (ap (λ (d : Decision). d .outcome) e)
+
+refusals-apart : (q r : Refusal) → refused-decision q ≡ refused-decision r → q ≡ r
+refusals-apart q r e =
+    let z : Refused q ≡ Refused r = ap (λ (d : Decision). d .outcome) e in
+    let z : q ≡ r = cc in
+    z
+
 sound-times : (policy : ℕ) (tasks : List Task) → Sound policy tasks → length (times-of policy tasks) ≡ most-frames * length tasks
 sound-times policy tasks sound = times-long policy tasks (sound .carried .counted)
 
 pub set-exactly : (s : TaskSet) (before : List ℕ) → length (s .tasks) ≡ most-tasks → (why : Refusal)
-    → (set-outcome s before ≡ Refused why) ↔ (refusal-to (admission s) (most-frames * length (map task-in (records-of s))) (length before) ≡ some why)
-unfolding set-outcome set-analysing analysing admission
+    → (set-decision s before ≡ refused-decision why) ↔ (refusal-to (admission s) (most-frames * length (map task-in (records-of s))) (length before) ≡ some why)
+unfolding set-decision set-analysing analysing admission
 set-exactly s before sixteen =
-    exactly Refused (set-analysing s) before (most-frames * length (map task-in (records-of s)))
+    exactly refused-decision (set-analysing s) before (most-frames * length (map task-in (records-of s)))
     (λ e. sound-times _ _ (sound-set s sixteen (none-applies (list-checks (s .policy) (s .«task_count») (records-of s)) e)))
-    (outcome-not-refused _ _) (λ q r e. let z : q ≡ r = cc in z)
+    (not-refused _ _) refusals-apart
 
 pub list-exactly : (policy : ℕ) (list : List Record) (before : List ℕ) (why : Refusal)
-    → (list-analysed policy list before ≡ Refused why) ↔ (refusal-to (decided (list-checks policy (length list) list)) (most-frames * length (map task-in list)) (length before) ≡ some why)
+    → (list-analysed policy list before ≡ refused-decision why) ↔ (refusal-to (decided (list-checks policy (length list) list)) (most-frames * length (map task-in list)) (length before) ≡ some why)
 unfolding list-analysed analysing-list analysing
 list-exactly policy list before =
-    exactly Refused (analysing-list policy list) before (most-frames * length (map task-in list))
+    exactly refused-decision (analysing-list policy list) before (most-frames * length (map task-in list))
     (λ e. sound-times _ _ (sound-list policy list (none-applies (list-checks policy (length list) list) e)))
-    (outcome-not-refused _ _) (λ q r e. let z : q ≡ r = cc in z)
+    (not-refused _ _) refusals-apart
 
 pub write-exactly : (policy : ℕ) (list : List Record) (before : List ℕ) (why : Refusal)
     → (list-written policy list before ≡ not-written why)
@@ -319,11 +346,11 @@ module _ (sheet : List ℕ) where
   sheet-long e = sound-times _ _ (sound-sheet sheet (none-applies (sheet-checks sheet) e))
 
   pub sheet-exactly : (before : List ℕ) (why : Refusal)
-      → (sheet-outcome sheet before ≡ Refused why) ↔ (refusal-to (reading sheet .answer) (most-frames * length (tasks-of sheet)) (length before) ≡ some why)
-  unfolding sheet-outcome sheet-analysing analysing
+      → (sheet-decision sheet before ≡ refused-decision why) ↔ (refusal-to (reading sheet .answer) (most-frames * length (tasks-of sheet)) (length before) ≡ some why)
+  unfolding sheet-decision sheet-analysing analysing
   sheet-exactly before why =
       rw (reading-answer sheet)
-      (exactly Refused (sheet-analysing sheet) before (most-frames * length (tasks-of sheet)) sheet-long (outcome-not-refused _ _) (λ q r e. let z : q ≡ r = cc in z) why)
+      (exactly refused-decision (sheet-analysing sheet) before (most-frames * length (tasks-of sheet)) sheet-long (not-refused _ _) refusals-apart why)
 
   pub read-exactly : (before : List Record) (why : Refusal)
       → (list-read sheet before ≡ not-read why) ↔ (refusal-to (reading sheet .answer) (length (tasks-of sheet)) (length before) ≡ some why)
@@ -356,17 +383,17 @@ module _ {A X : Type 0} (refused : Refusal → X) (call : Call Refusal A X) (nev
       go (is-done d) = absurd (never r (sym (d .answer) ∙ e))
 
 module _ (r : Refusal) where
-  pub set-unchanged : (s : TaskSet) (before : List ℕ) → set-outcome s before ≡ Refused r → set-left s before ≡ before
-  unfolding set-outcome set-left set-analysing analysing
-  set-unchanged s before = unchanged Refused (set-analysing s) (outcome-not-refused _ _) before r
+  pub set-unchanged : (s : TaskSet) (before : List ℕ) → set-decision s before ≡ refused-decision r → set-left s before ≡ before
+  unfolding set-decision set-left set-analysing analysing
+  set-unchanged s before = unchanged refused-decision (set-analysing s) (not-refused _ _) before r
 
-  pub sheet-unchanged : (s before : List ℕ) → sheet-outcome s before ≡ Refused r → sheet-left s before ≡ before
-  unfolding sheet-outcome sheet-left sheet-analysing analysing
-  sheet-unchanged s before = unchanged Refused (sheet-analysing s) (outcome-not-refused _ _) before r
+  pub sheet-unchanged : (s before : List ℕ) → sheet-decision s before ≡ refused-decision r → sheet-left s before ≡ before
+  unfolding sheet-decision sheet-left sheet-analysing analysing
+  sheet-unchanged s before = unchanged refused-decision (sheet-analysing s) (not-refused _ _) before r
 
-  pub list-unchanged : (policy : ℕ) (list : List Record) (before : List ℕ) → list-analysed policy list before ≡ Refused r → list-times policy list before ≡ before
+  pub list-unchanged : (policy : ℕ) (list : List Record) (before : List ℕ) → list-analysed policy list before ≡ refused-decision r → list-times policy list before ≡ before
   unfolding list-analysed list-times analysing-list analysing
-  list-unchanged policy list before = unchanged Refused (analysing-list policy list) (outcome-not-refused _ _) before r
+  list-unchanged policy list before = unchanged refused-decision (analysing-list policy list) (not-refused _ _) before r
 
   pub read-unchanged : (sheet : List ℕ) (before : List Record) → list-read sheet before ≡ not-read r → list-filled sheet before ≡ before
   unfolding list-read list-filled reading-list

@@ -1,10 +1,10 @@
 -- A number says one thing: each answer comes back from its number.
 use mathlib.Core.Bool.{true, false}
-use mathlib.Core.Path.{_≡_, refl, ap, ap₂, _∙_}
+use mathlib.Core.Path.{_≡_, refl, sym, ap, ap₂, _∙_}
 use Prim.Native.Nat.{ℕ, _+_, _-_, _*_, _/_, _%_, _≤_, _<_}
 use native.Mathlib.Omega.{arith}
 use borrow.Author.Tests.{lt-ltb, le-ltb, eq-eqb, ne-eqb}
-use lib.Dec.{eqb, lit≤}
+use lib.Dec.{eqb, lit<, lit≤}
 use Rattle.sheet.specs.Constants.{most-tasks}
 use Rattle.sheet.specs.Refusals.{number-of, task-of-refusal}
 use Rattle.sheet.specs.declared.Refusal.{Refusal}
@@ -18,12 +18,13 @@ use Rattle.analysis.specs.Answers.{blocker-code, code}
 use Rattle.analysis.specs.declared.Outcome.{Outcome}
 use Rattle.analysis.specs.declared.Outcome.the-variants.{Holds, Missed}
 use Rattle.analysis.specs.declared.Outcome.the-variants.{Refused as not-analysed}
-use Rattle.lists.specs.Codes.{above-refusals, above-policies, refusal-code, read-code, written-code, outcome-code}
+use Rattle.analysis.specs.declared.Decision.{Decision}
 use Rattle.lists.specs.declared.ListRead.{ListRead}
 use Rattle.lists.specs.declared.ListRead.the-variants.{Set}
 use Rattle.lists.specs.declared.ListRead.the-variants.{TurnedAway as not-read}
+use Rattle.workbench.specs.Numbers.{refused-number, read-number, written-number, outcome-number}
 use Rattle.signed.specs.Claims.{missed, refused, said}
-use Rattle.signed.specs.Numbers.{blocker-by, said-by, refusal-by, refused-by, list-read-by, list-written-by, verdict-by, list-outcome-by}
+use Rattle.signed.specs.Numbers.{blocker-by, said-by, refusal-by, refused-by, list-read-by, written-by, verdict-by, analysed-by, decision-by}
 
 -- ---- refusals
 
@@ -100,50 +101,68 @@ said-back Holds h = refl
 said-back (Missed p b) h = let (same, small) = blocker-back b h in miss-said p (blocker-code b) small ∙ ap (missed p) same
 said-back (not-analysed r) h = let (l, m) = refusal-range r in refusal-said (number-of r) l m
 
--- ---- the list entries
+-- ---- every other entry
 
 -- a number with a refusal in it, and one with none
 module _ (r : Refusal) where
-  with-refusal : eqb (refusal-code r % above-refusals) 0 ≡ false
-  with-refusal = let range = refusal-range r in ne-eqb (refusal-code r % above-refusals) 0 (omega arith)
+  with-refusal : eqb (refused-number r % 256) 0 ≡ false
+  with-refusal = let range = refusal-range r in ne-eqb (refused-number r % 256) 0 (omega arith)
 
-  refused-back : refused-by (refusal-code r) ≡ r
+  refused-back : refused-by (refused-number r) ≡ r
   unfolding refused-by
   refused-back =
       let range = refusal-range r in
-      let low : refusal-code r % above-refusals ≡ number-of r = omega arith in
-      let high : refusal-code r / above-refusals ≡ task-of-refusal r = omega arith in
+      let low : refused-number r % 256 ≡ number-of r = omega arith in
+      let high : refused-number r / 256 ≡ task-of-refusal r = omega arith in
       ap₂ refusal-by low high ∙ refusal-back r
 
 module _ (m : ℕ) where
-  with-none : eqb (above-refusals * m % above-refusals) 0 ≡ true
-  with-none = eq-eqb (above-refusals * m % above-refusals) 0 (omega arith)
+  with-none : eqb (256 * m % 256) 0 ≡ true
+  with-none = eq-eqb (256 * m % 256) 0 (omega arith)
 
-  detail : above-refusals * m / above-refusals ≡ m
+  detail : 256 * m / 256 ≡ m
   detail = omega arith
 
-pub written-back : (w : Written) → list-written-by (written-code w) ≡ w
-unfolding list-written-by
+pub written-back : (w : Written) → written-by (written-number w) ≡ w
+unfolding written-by
 written-back (Bytes n) = rw (with-none n, detail n)
 written-back (not-written r) = rw (with-refusal r) (ap not-written (refused-back r))
 
-pub read-back : (x : ListRead) → ((policy count : ℕ) → x ≡ Set policy count → policy < above-policies) → list-read-by (read-code x) ≡ x
+pub read-back : (x : ListRead) → ((policy count : ℕ) → x ≡ Set policy count → (policy < 256) × (count < 256)) → list-read-by (read-number x) ≡ x
 unfolding list-read-by
 read-back (Set policy count) h =
-    let small = h policy count refl in
-    let low : (policy + above-policies * count) % above-policies ≡ policy = omega arith in
-    let high : (policy + above-policies * count) / above-policies ≡ count = omega arith in
-    rw (with-none (policy + above-policies * count), detail (policy + above-policies * count), low, high)
+    let (known, few) = h policy count refl in
+    let low : (count + 256 * policy) % 256 ≡ count = omega arith in
+    let high : (count + 256 * policy) / 256 % 256 ≡ policy = omega arith in
+    rw (with-none (count + 256 * policy), detail (count + 256 * policy), low, high)
 read-back (not-read r) h = rw (with-refusal r) (ap not-read (refused-back r))
 
-miss-back : (p c : ℕ) → c ≤ 16 → verdict-by (100 + 17 * p + c) ≡ Missed p (blocker-by c)
+miss-back : (p c : ℕ) → c ≤ 16 → verdict-by (1 + 17 * p + c) ≡ Missed p (blocker-by c)
 unfolding verdict-by
-miss-back p c h = rw (ne-eqb (100 + 17 * p + c) 0 (omega arith), less p c h, quotient p c h, rest p c h)
+miss-back p c h =
+    let less-one : 1 + 17 * p + c - 1 ≡ 17 * p + c = omega arith in
+    rw (ne-eqb (1 + 17 * p + c) 0 (omega arith), less-one, quotient p c h, rest p c h)
 
-pub outcome-back : (o : Outcome) → FewOf o → list-outcome-by (outcome-code o) ≡ o
-unfolding list-outcome-by verdict-by FewOf
-outcome-back Holds h = refl
-outcome-back (Missed p b) h =
-    let (same, small) = blocker-back b h in
-    rw (with-none (100 + 17 * p + blocker-code b), detail (100 + 17 * p + blocker-code b)) (miss-back p (blocker-code b) small ∙ ap (Missed p) same)
-outcome-back (not-analysed r) h = rw (with-refusal r) (ap not-analysed (refused-back r))
+-- an outcome in sixteen bits below a count in eight
+analysed-back : (m n : ℕ) → m < 65536 → n < 256 → analysed-by (m + 65536 * n) ≡ record { outcome = verdict-by m; «task_count» = n }
+unfolding analysed-by
+analysed-back m n h l =
+    let low : (m + 65536 * n) % 65536 ≡ m = omega arith in
+    let high : (m + 65536 * n) / 65536 % 256 ≡ n = omega arith in
+    rw (low, high)
+
+-- a decision whose parts have room in their bits
+unfoldable pub InBits : Outcome → ℕ → Type 0
+InBits Holds n = n < 256
+InBits (Missed p b) n = (p < most-tasks) × Few b × (n < 256)
+InBits (not-analysed why) n = n ≡ 0
+
+pub decision-back : (o : Outcome) (n : ℕ) → InBits o n → decision-by (outcome-number o n) ≡ record { outcome = o; «task_count» = n }
+unfolding decision-by InBits verdict-by
+decision-back Holds n l = rw (with-none (65536 * n), detail (65536 * n)) (analysed-back 0 n (lit< tt) l)
+decision-back (Missed p b) n (h, few, l) =
+    let (same, small) = blocker-back b few in
+    let m : ℕ = 1 + 17 * p + blocker-code b in
+    rw (with-none (m + 65536 * n), detail (m + 65536 * n))
+    (analysed-back m n (omega arith) l ∙ ap (λ (o : Outcome). record { outcome = o; «task_count» = n }) (miss-back p (blocker-code b) small ∙ ap (Missed p) same))
+decision-back (not-analysed r) n e = rw (with-refusal r) (ap₂ (λ (q : Refusal) (k : ℕ). record { outcome = not-analysed q; «task_count» = k }) (refused-back r) (sym e))

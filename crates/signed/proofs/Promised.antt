@@ -17,12 +17,13 @@ use Rattle.analysis.specs.Times.{outcome-of, times-of}
 use Rattle.analysis.specs.Answers.{code}
 use Rattle.analysis.specs.declared.Outcome.{Outcome}
 use Rattle.analysis.specs.declared.Outcome.the-variants.{Holds, Missed, Refused}
+use Rattle.analysis.specs.declared.Decision.{Decision}
 use Rattle.analysis.proofs.Entries.{few, times-long}
 use Rattle.analysis.proofs.Promises.{outcome-not-refused}
-use Rattle.signed.specs.Claims.{said, Kept, time-in, Timed, Untimed, Signed}
+use Rattle.signed.specs.Claims.{said, count-said, Kept, time-in, Timed, Untimed, Signed}
 use Rattle.signed.specs.Numbers.{IsNumber, it-holds, it-refuses, task-misses, task-misses-alone}
 use Rattle.signed.proofs.Times.{each, signed}
-use Rattle.signed.proofs.Numbers.{refusal-range, FewOf}
+use Rattle.signed.proofs.Numbers.{refusal-range, FewOf, InBits}
 use Rattle.signed.proofs.Memory.{stored, time-laid, surplus-kept}
 use Rattle.signed.proofs.Entries.{Sound, Analysed, is-refused, is-analysed}
 
@@ -77,16 +78,39 @@ few-said policy tasks kept before after (Missed p b) h s = λ q e. omega (arith,
 few-said policy tasks kept before after (Refused why) h s = tt
 
 module _ {policy : ℕ} {tasks : List Task} {kept : Kept} {before : List ℕ} where
-  pub promised : {outcome : Outcome} {after : List ℕ} → Analysed policy tasks kept before outcome after → Signed policy tasks kept before after (said outcome)
+  pub promised : {decided : Decision} {after : List ℕ} → Analysed policy tasks kept before decided after → Signed policy tasks kept before after (said (decided .outcome))
   unfolding Signed said
   promised (is-refused why) = (refusal-range why .0, refusal-range why .1, refl)
   promised (is-analysed sound fits) = laid-signed policy tasks sound kept before fits
 
-  pub few-of : {outcome : Outcome} {after : List ℕ} → Analysed policy tasks kept before outcome after → FewOf outcome
+  pub few-of : {decided : Decision} {after : List ℕ} → Analysed policy tasks kept before decided after → FewOf (decided .outcome)
   unfolding FewOf
   few-of (is-refused why) = tt
   few-of (is-analysed sound fits) =
       few-said policy tasks kept before _ (outcome-of policy tasks) (sound .carried .few-tasks) (laid-signed policy tasks sound kept before fits)
+
+  -- the parts of a decision have room in their bits
+  pub in-bits : {decided : Decision} {after : List ℕ} → Analysed policy tasks kept before decided after → InBits (decided .outcome) (decided .«task_count»)
+  in-bits (is-refused why) = unfold InBits in refl
+  in-bits (is-analysed sound fits) = go (outcome-of policy tasks) refl (laid-signed policy tasks sound kept before fits)
+    where
+      go : (o : Outcome) → outcome-of policy tasks ≡ o → Signed policy tasks kept before (laid (stored kept (times-of policy tasks)) before) (said o) → InBits o (length tasks)
+      go Holds e s = unfold InBits in omega (arith, sound .carried .few-tasks)
+      go (Missed p b) e s =
+          unfold InBits Signed said in
+          (omega (arith, s .0 .in-set, sound .carried .few-tasks), λ q e. omega (arith, s .0 .blocker-in-set q e, sound .carried .few-tasks), omega (arith, sound .carried .few-tasks))
+      go (Refused why) e s = absurd (outcome-not-refused policy tasks why e)
+
+  -- the count is that of the tasks
+  pub counted : {decided : Decision} {after : List ℕ} → Analysed policy tasks kept before decided after
+      → decided .«task_count» ≡ count-said (length tasks) (said (decided .outcome))
+  counted (is-refused why) = unfold count-said said in refl
+  counted (is-analysed sound fits) = go (outcome-of policy tasks) refl
+    where
+      go : (o : Outcome) → outcome-of policy tasks ≡ o → length tasks ≡ count-said (length tasks) (said o)
+      go Holds e = unfold count-said said in refl
+      go (Missed p b) e = unfold count-said said in refl
+      go (Refused why) e = absurd (outcome-not-refused policy tasks why e)
 
 -- the number of a set's outcome is not from 1 to 12
 pub outcome-number : (policy : ℕ) (tasks : List Task) → 1 ≤ code (outcome-of policy tasks) → ¬ (code (outcome-of policy tasks) ≤ 12)
@@ -107,7 +131,7 @@ number-given policy tasks kept before after (Missed p Nobody) s = task-misses-al
 number-given policy tasks kept before after (Refused why) s = it-refuses (number-of why) (s .0) (s .1)
 
 -- a number from 1 to 12 is that of a refusal
-pub number-refused : {policy : ℕ} {tasks : List Task} {kept : Kept} {before after : List ℕ} {outcome : Outcome} → Analysed policy tasks kept before outcome after
-    → 1 ≤ code outcome → code outcome ≤ 12 → after ≡ before
+pub number-refused : {policy : ℕ} {tasks : List Task} {kept : Kept} {before after : List ℕ} {decided : Decision} → Analysed policy tasks kept before decided after
+    → 1 ≤ code (decided .outcome) → code (decided .outcome) ≤ 12 → after ≡ before
 number-refused (is-refused why) l h = refl
 number-refused {policy} {tasks} (is-analysed sound fits) l h = absurd (outcome-number policy tasks l h)

@@ -6,28 +6,28 @@ use Prim.Native.Nat.{ℕ}
 use Rattle.sheet.specs.declared.Task.{Task as Record}
 use Rattle.sheet.specs.declared.TaskSet.{TaskSet}
 use Rattle.sheet.specs.declared.Written.{Written}
-use Rattle.analysis.specs.Answers.{set-outcome, set-left, sheet-outcome, sheet-left}
-use Rattle.analysis.specs.declared.Outcome.{Outcome}
+use Rattle.analysis.specs.Answers.{set-decision, set-left, sheet-decision, sheet-left}
+use Rattle.analysis.specs.declared.Decision.{Decision}
 use Rattle.lists.specs.Faces.{list-read, list-filled, list-written, list-left, list-analysed, list-times}
-use Rattle.lists.specs.Codes.{read-code, written-code, outcome-code}
 use Rattle.lists.specs.declared.ListRead.{ListRead}
 use Rattle.workbench.specs.Entry.{entry-number, entry-left}
+use Rattle.workbench.specs.Numbers.{read-number, written-number, decision-number}
 use Rattle.report_text.specs.Report.{report}
-use Rattle.report_text.specs.Text.{text-of}
+use Rattle.report_text.specs.Text.{text-of, report-written, report-left}
 use Rattle.report_text.specs.declared.Text.{Text}
 
 -- `analyse_set`: a set by value, its times to lent numbers
-pub record AnalyseSet (set : TaskSet) (before : List ℕ) (answer : Outcome) (after : List ℕ) : Type 0 where
-  pub answers : answer ≡ set-outcome set before
+pub record AnalyseSet (set : TaskSet) (before : List ℕ) (answer : Decision) (after : List ℕ) : Type 0 where
+  pub answers : answer ≡ set-decision set before
   pub leaves : after ≡ set-left set before
 
 -- `analyse_sheet`: a sheet, its times to lent numbers
-pub record AnalyseSheet (sheet before : List ℕ) (answer : Outcome) (after : List ℕ) : Type 0 where
-  pub answers : answer ≡ sheet-outcome sheet before
+pub record AnalyseSheet (sheet before : List ℕ) (answer : Decision) (after : List ℕ) : Type 0 where
+  pub answers : answer ≡ sheet-decision sheet before
   pub leaves : after ≡ sheet-left sheet before
 
 -- `analyse_list`: a lent list of records, its times to lent numbers
-pub record AnalyseList (policy : ℕ) (list : List Record) (before : List ℕ) (answer : Outcome) (after : List ℕ) : Type 0 where
+pub record AnalyseList (policy : ℕ) (list : List Record) (before : List ℕ) (answer : Decision) (after : List ℕ) : Type 0 where
   pub answers : answer ≡ list-analysed policy list before
   pub leaves : after ≡ list-times policy list before
 
@@ -45,20 +45,34 @@ pub record WriteList (policy : ℕ) (list : List Record) (before : List ℕ) (an
 pub record ReportText (sheet : List ℕ) (answer : Text) : Type 0 where
   pub answers : answer ≡ text-of (report sheet)
 
+-- `write_report`: the text of a report to lent bytes
+pub record WriteReport (sheet before : List ℕ) (answer : Written) (after : List ℕ) : Type 0 where
+  pub answers : answer ≡ report-written sheet before
+  pub leaves : after ≡ report-left sheet before
+
 -- `burrbeech_check_sheet`: a sheet, its times to lent bytes; the answer is a number
 pub record CheckSheetC (sheet before : List ℕ) (number : ℕ) (after : List ℕ) : Type 0 where
   pub answers : number ≡ entry-number sheet before
   pub leaves : after ≡ entry-left sheet before
 
--- `burrbeech_analyse_list`, `burrbeech_read_list`, `burrbeech_write_list`: as the calls above, the answer by its number
+-- `burrbeech_analyse_sheet`, `burrbeech_analyse_list`, `burrbeech_read_list`, `burrbeech_write_list`, `burrbeech_report`: as the calls above,
+-- the answer by its number
+pub record AnalyseSheetC (sheet before : List ℕ) (number : ℕ) (after : List ℕ) : Type 0 where
+  pub answers : number ≡ decision-number (sheet-decision sheet before)
+  pub leaves : after ≡ sheet-left sheet before
+
 pub record AnalyseListC (policy : ℕ) (list : List Record) (before : List ℕ) (number : ℕ) (after : List ℕ) : Type 0 where
-  pub answers : number ≡ outcome-code (list-analysed policy list before)
+  pub answers : number ≡ decision-number (list-analysed policy list before)
   pub leaves : after ≡ list-times policy list before
 
 pub record ReadListC (sheet : List ℕ) (before : List Record) (number : ℕ) (after : List Record) : Type 0 where
-  pub answers : number ≡ read-code (list-read sheet before)
+  pub answers : number ≡ read-number (list-read sheet before)
   pub leaves : after ≡ list-filled sheet before
 
 pub record WriteListC (policy : ℕ) (list : List Record) (before : List ℕ) (number : ℕ) (after : List ℕ) : Type 0 where
-  pub answers : number ≡ written-code (list-written policy list before)
+  pub answers : number ≡ written-number (list-written policy list before)
   pub leaves : after ≡ list-left policy list before
+
+pub record ReportC (sheet before : List ℕ) (number : ℕ) (after : List ℕ) : Type 0 where
+  pub answers : number ≡ written-number (report-written sheet before)
+  pub leaves : after ≡ report-left sheet before

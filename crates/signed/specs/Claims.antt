@@ -43,6 +43,12 @@ said Holds = holds
 said (Missed i b) = missed i b
 said (Refused why) = refused (number-of why)
 
+-- how many tasks it speaks of: all n of them, or none where the call is refused
+unfoldable pub count-said : ℕ → Said → ℕ
+count-said n holds = n
+count-said n (missed task by) = n
+count-said n (refused number) = 0
+
 -- ---- the lent times
 
 -- times stand in lent memory as numbers, or in four bytes each

@@ -12,11 +12,10 @@ use Rattle.sheet.specs.declared.Written.the-variants.{Bytes}
 use Rattle.sheet.specs.declared.Written.the-variants.{TurnedAway as not-written}
 use Rattle.order.specs.declared.Blocker.{Blocker}
 use Rattle.order.specs.declared.Blocker.the-variants.{At, Nobody}
-use Rattle.analysis.specs.Answers.{first-miss, blockers}
+use Rattle.analysis.specs.Answers.{first-miss, blockers, refused-decision}
 use Rattle.analysis.specs.declared.Outcome.{Outcome}
 use Rattle.analysis.specs.declared.Outcome.the-variants.{Holds, Missed}
-use Rattle.analysis.specs.declared.Outcome.the-variants.{Refused as not-analysed}
-use Rattle.lists.specs.Codes.{above-refusals, above-policies}
+use Rattle.analysis.specs.declared.Decision.{Decision}
 use Rattle.lists.specs.declared.ListRead.{ListRead}
 use Rattle.lists.specs.declared.ListRead.the-variants.{Set}
 use Rattle.lists.specs.declared.ListRead.the-variants.{TurnedAway as not-read}
@@ -44,23 +43,26 @@ refusal-by number i =
     (Length ∷ CheckWord ∷ Version ∷ Policy ∷ BitSet ∷ TaskCount ∷ FrameCount i ∷ Records ∷ IllFormed i ∷ Lock i ∷ NotMonotonic i ∷ Room ∷ [])
     (number - 1) Room
 
--- the list entries: the refusal's number or 0, and above it what else is answered
+-- every entry but `burrbeech_check_sheet`: the refusal's number or 0 in the low eight bits, and above them the detail; of a refusal the task
 unfoldable pub refused-by : ℕ → Refusal
-refused-by c = refusal-by (c % above-refusals) (c / above-refusals)
+refused-by c = refusal-by (c % 256) (c / 256)
 
--- `burrbeech_read_list`: the policy, and above it the task count
+-- `burrbeech_read_list`: the task count in eight bits of the detail, the policy in the next eight
 unfoldable pub list-read-by : ℕ → ListRead
 list-read-by c =
-    let detail = c / above-refusals in
-    cond (eqb (c % above-refusals) 0) (Set (detail % above-policies) (detail / above-policies)) (not-read (refused-by c))
+    let detail = c / 256 in
+    cond (eqb (c % 256) 0) (Set (detail / 256 % 256) (detail % 256)) (not-read (refused-by c))
 
--- `burrbeech_write_list`: the bytes written
-unfoldable pub list-written-by : ℕ → Written
-list-written-by c = cond (eqb (c % above-refusals) 0) (Bytes (c / above-refusals)) (not-written (refused-by c))
+-- `burrbeech_write_list` and `burrbeech_report`: the bytes written
+unfoldable pub written-by : ℕ → Written
+written-by c = cond (eqb (c % 256) 0) (Bytes (c / 256)) (not-written (refused-by c))
 
--- `burrbeech_analyse_list`: 0 for holds, else 100 + 17p + b
+-- `burrbeech_analyse_sheet` and `burrbeech_analyse_list`: in sixteen bits 0 for holds or 1 + 17p + b, in the next eight the task count
 unfoldable pub verdict-by : ℕ → Outcome
-verdict-by m = cond (eqb m 0) Holds (Missed ((m - first-miss) / blockers) (blocker-by ((m - first-miss) % blockers)))
+verdict-by m = cond (eqb m 0) Holds (Missed ((m - 1) / 17) (blocker-by ((m - 1) % 17)))
 
-unfoldable pub list-outcome-by : ℕ → Outcome
-list-outcome-by c = cond (eqb (c % above-refusals) 0) (verdict-by (c / above-refusals)) (not-analysed (refused-by c))
+unfoldable pub analysed-by : ℕ → Decision
+analysed-by detail = record { outcome = verdict-by (detail % 65536); «task_count» = detail / 65536 % 256 }
+
+unfoldable pub decision-by : ℕ → Decision
+decision-by c = cond (eqb (c % 256) 0) (analysed-by (c / 256)) (refused-decision (refused-by c))

@@ -5,10 +5,13 @@ use mathlib.Core.Logic.{_⊎_}
 use mathlib.Core.Path.{_≡_}
 use Prim.Native.Nat.{ℕ, zero, suc, _+_, _-_, _*_, _≤_, _<_}
 use lib.Dec.{eqb}
-use lib.ListN.{length, getD, take}
+use lib.ListN.{length, getD, take, drop}
 use Rattle.theory.specs.Tasks.{Task, task-at, frame-count, shortest-deadline}
 use Rattle.theory.specs.Tasks.{Admitted as IsAdmitted}
 use Rattle.theory.specs.Analysis.{lower, blocking}
+use Rattle.sheet.specs.declared.Refusal.the-variants.{Room}
+use Rattle.sheet.specs.declared.Written.{Written}
+use Rattle.sheet.specs.declared.Written.the-variants.{Bytes, TurnedAway}
 use Rattle.order.specs.Order.{priority-order, ordered-set}
 use Rattle.order.specs.declared.Blocker.{Blocker}
 use Rattle.order.specs.declared.Blocker.the-variants.{At, Nobody}
@@ -109,3 +112,9 @@ ReportSigned policy tasks text (missed p b) =
     × Lines (length tasks) (WordsUpTo policy tasks p) text
     × IsAdmitted tasks
 ReportSigned policy tasks text (refused number) = (1 ≤ number) × (number ≤ 12) × (text ≡ line (refused-word ∷ decimal number ∷ []))
+
+-- And for its text in lent bytes: it stands there as long as it is said to be, the bytes behind it as they were; or there is no room, and nothing has changed.
+unfoldable pub ReportLeft : ℕ → List Task → (before after : List ℕ) → Written → Type 0
+ReportLeft policy tasks before after (Bytes n) =
+    ReportSigned policy tasks (take n after) (said-in (words-in (take n after))) × (drop n after ≡ drop n before) × (n ≤ 2048)
+ReportLeft policy tasks before after (TurnedAway why) = (why ≡ Room) × (after ≡ before)

@@ -1,3 +1,5 @@
--- Lemmas of the C entry.
+-- Lemmas of the C entries.
 pub mod Four
 pub mod Answers
+pub mod Small
+pub mod Numbered

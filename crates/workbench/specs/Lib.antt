@@ -1,2 +1,3 @@
--- The C entry: what the workbench gets, and what its room for response times holds.
+-- The C entries: what `burrbeech_check_sheet` answers and leaves, and the numbers of what the others answer.
 pub mod Entry
+pub mod Numbers

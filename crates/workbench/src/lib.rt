@@ -1,16 +1,25 @@
-// The C entry for the workbench: a sheet in, a number and response times out.
+// Every entry for C. `burrbeech_check_sheet` answers as the scope says; each other entry is a call that Rattle has too, and answers its number.
 ghost use mathlib.Core.List.{_++_};
 ghost use mathlib.Core.Path.{_≡_};
-ghost use Prim.Native.Nat.{_+_, _*_, _≤_};
+ghost use Prim.Native.Nat.{_+_, _*_, _^_, _≤_, _<_};
 ghost use lib.ListN.{length, take, drop};
 ghost use Rattle.bits.specs.Packed.{digits, bytes-of};
 ghost use Rattle.lent.specs.Lent.{laid};
+ghost use Rattle.analysis.specs.Answers.{sheet-decision, sheet-left};
 ghost use Rattle.analysis.specs.Findings.{times-by-number};
 ghost use Rattle.analysis.specs.Inside.Numbered.{Numbered};
+ghost use Rattle.lists.specs.Faces.{list-read, list-filled, list-written, list-left, list-analysed, list-times};
+ghost use Rattle.report_text.specs.Text.{report-written, report-left};
+ghost use Rattle.workbench.specs.Numbers.{refused-number, read-number, written-number, decision-number};
 ghost use Rattle.workbench.specs.Entry.{time-size, task-size, four-bytes, entry-number, entry-left};
 use analysis::Analysis;
+use analysis::Decision;
+use analysis::Outcome;
+use lists::ListRead;
 use sheet::Refusal;
 use sheet::Sheet;
+use sheet::Task;
+use sheet::Written;
 
 // The bytes of a time, and of all times of a task.
 const TIME_SIZE: usize = 4;
@@ -64,4 +73,91 @@ pub extern "C" fn burrbeech_check_sheet(sheet: &[u8], times: &mut [u8]) -> u32
     put_times(a, times);
     let outcome = a.outcome;
     outcome.code() as u32
+}
+
+// Eight bits hold the refusal's number, the detail stands above them; the parts of a detail take eight bits each, an outcome sixteen.
+const BYTE: u64 = 256;
+
+const TWO_BYTES: u64 = BYTE * BYTE;
+
+fn refused_number(why: Refusal) -> u64
+    ensures { λ r. ⌜ r ≡ refused-number why ⌝ }
+{
+    why.number() as u64 + BYTE * why.task() as u64
+}
+
+fn read_number(read: ListRead) -> u64
+    requires { ⌜ read-number read < 2 ^ 64 ⌝ }
+    ensures { λ r. ⌜ r ≡ read-number read ⌝ }
+{
+    match read {
+        ListRead::Set(policy, count) => BYTE * (count as u64 + BYTE * policy as u64),
+        ListRead::TurnedAway(why) => refused_number(why),
+    }
+}
+
+fn written_number(written: Written) -> u64
+    requires { ⌜ written-number written < 2 ^ 64 ⌝ }
+    ensures { λ r. ⌜ r ≡ written-number written ⌝ }
+{
+    match written {
+        Written::Bytes(n) => BYTE * n as u64,
+        Written::TurnedAway(why) => refused_number(why),
+    }
+}
+
+fn decision_number(decision: Decision) -> u64
+    requires { ⌜ decision-number decision < 2 ^ 64 ⌝ }
+    ensures { λ r. ⌜ r ≡ decision-number decision ⌝ }
+{
+    let tasks = TWO_BYTES * decision.task_count as u64;
+    let outcome = decision.outcome;
+    match outcome {
+        Outcome::Holds => BYTE * tasks,
+        Outcome::Missed(task, blocker) => {
+            let blocked = analysis::blocker_code(blocker) as u64;
+            BYTE * (1 + Outcome::BLOCKERS * task as u64 + blocked + tasks)
+        }
+        Outcome::Refused(why) => refused_number(why),
+    }
+}
+
+// A sheet read into the workbench's own records.
+#[no_mangle]
+pub extern "C" fn burrbeech_read_list(sheet: &[u8], list: &mut [Task]) -> u64
+    ensures { λ r. ⌜ (r ≡ read-number (list-read (now (sheet .entry)) (now (list .entry)))) × (now (list .exit) ≡ list-filled (now (sheet .entry)) (now (list .entry))) ⌝ }
+{
+    read_number(lists::read_list(sheet, list))
+}
+
+// The workbench's own records written to a sheet.
+#[no_mangle]
+pub extern "C" fn burrbeech_write_list(policy: u32, list: &[Task], sheet: &mut [u8]) -> u64
+    ensures { λ r. ⌜ (r ≡ written-number (list-written policy (now (list .entry)) (now (sheet .entry)))) × (now (sheet .exit) ≡ list-left policy (now (list .entry)) (now (sheet .entry))) ⌝ }
+{
+    written_number(lists::write_list(policy, list, sheet))
+}
+
+// The workbench's own records analysed, the times to lent numbers.
+#[no_mangle]
+pub extern "C" fn burrbeech_analyse_list(policy: u32, list: &[Task], times: &mut [u32]) -> u64
+    ensures { λ r. ⌜ (r ≡ decision-number (list-analysed policy (now (list .entry)) (now (times .entry)))) × (now (times .exit) ≡ list-times policy (now (list .entry)) (now (times .entry))) ⌝ }
+{
+    decision_number(lists::analyse_list(policy, list, times))
+}
+
+// A sheet analysed, the times to lent numbers.
+#[no_mangle]
+pub extern "C" fn burrbeech_analyse_sheet(sheet: &[u8], times: &mut [u32]) -> u64
+    ensures { λ r. ⌜ (r ≡ decision-number (sheet-decision (now (sheet .entry)) (now (times .entry)))) × (now (times .exit) ≡ sheet-left (now (sheet .entry)) (now (times .entry))) ⌝ }
+{
+    decision_number(analysis::analyse_sheet(sheet, times))
+}
+
+// The report on a sheet, admitted or not, its text to lent bytes.
+#[no_mangle]
+pub extern "C" fn burrbeech_report(sheet: &[u8], text: &mut [u8]) -> u64
+    ensures { λ r. ⌜ (r ≡ written-number (report-written (now (sheet .entry)) (now (text .entry)))) × (now (text .exit) ≡ report-left (now (sheet .entry)) (now (text .entry))) ⌝ }
+{
+    written_number(report_text::write_report(sheet, text))
 }

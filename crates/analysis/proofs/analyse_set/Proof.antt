@@ -2,7 +2,7 @@
 use mathlib.Core.Path.{ap, _∙_}
 use denote.Ref.{now}
 use Rattle.sheet.proofs.Records.{mapped-length}
-use Rattle.analysis.specs.Inside.Delivery.{delivered-outcome, delivered}
+use Rattle.analysis.specs.Inside.Delivery.{delivered-decision, delivered}
 use Rattle.analysis.specs.declared.Analysis.{Analysis}
 use Rattle.analysis.proofs.Entries.{set-numbered, set-delivers}
 use borrow.Author.Needs.{needs}
@@ -25,7 +25,7 @@ returns c =
     let e = c .before .before .before .before .analysis-of-set .ensures in
     let d = c .before .before .deliver .ensures in
     let s = set-delivers _ room in
-    (d .0 ∙ ap (λ (x : Analysis). delivered-outcome x room) e ∙ s .0, d .1 ∙ ap (λ (x : Analysis). delivered x room) e ∙ s .1)
+    (d .0 ∙ ap (λ (x : Analysis). delivered-decision x room) e ∙ s .0, d .1 ∙ ap (λ (x : Analysis). delivered x room) e ∙ s .1)
 
 pub analyse-set-spec : {M : Type 1} → statement M
 analyse-set-spec = tie.close (tie.spec analysis-of-set-requires deliver-requires same-length returns)

@@ -1,7 +1,7 @@
 -- `analyse_sheet` meets its contract.
 use mathlib.Core.Path.{ap, _∙_}
 use denote.Ref.{now}
-use Rattle.analysis.specs.Inside.Delivery.{delivered-outcome, delivered}
+use Rattle.analysis.specs.Inside.Delivery.{delivered-decision, delivered}
 use Rattle.analysis.specs.declared.Analysis.{Analysis}
 use Rattle.analysis.proofs.Entries.{sheet-numbered, sheet-delivers}
 use borrow.Author.Needs.{needs}
@@ -24,7 +24,7 @@ returns c =
     let e = c .before .before .before .before .analysis-of-sheet .ensures in
     let d = c .before .before .deliver .ensures in
     let s = sheet-delivers _ room in
-    (d .0 ∙ ap (λ (x : Analysis). delivered-outcome x room) e ∙ s .0, d .1 ∙ ap (λ (x : Analysis). delivered x room) e ∙ s .1)
+    (d .0 ∙ ap (λ (x : Analysis). delivered-decision x room) e ∙ s .0, d .1 ∙ ap (λ (x : Analysis). delivered x room) e ∙ s .1)
 
 pub analyse-sheet-spec : {M : Type 1} → statement M
 analyse-sheet-spec = tie.close (tie.spec analysis-of-sheet-requires deliver-requires same-length returns)

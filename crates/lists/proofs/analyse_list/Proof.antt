@@ -4,11 +4,11 @@ use contract.Running.{givenOf, tables, tablesOf}
 use denote.Builtin.{u32}
 use denote.Triple.Spec.{tripleOf}
 use denote.Triple.Table.{entered, cited}
-use Rattle.analysis.specs.Answers.{set-outcome, set-left}
+use Rattle.analysis.specs.Answers.{set-decision, set-left}
 use Rattle.lists.specs.Faces.{list-analysed, list-times}
-use Rattle.lists.proofs.Faces.{outcome-gathered, times-gathered}
+use Rattle.lists.proofs.Faces.{decision-gathered, times-gathered}
 use Rattle.lists.proofs.Handed.{meets}
-use Rattle.lists.proofs.Records.{outcome-value}
+use Rattle.lists.proofs.Records.{decision-value}
 use Rattle.lists.proofs.gathered as gathered
 use Rattle.lists.proofs.gathered.Symbol as gathered-def
 use Rattle.lists.proofs.gathered.Symbol.{name as #gathered}
@@ -27,7 +27,7 @@ unfolding code.routine tablesOf
 analyse-list-spec 𝓤 H 𝓜 𝓖 𝓡 =
     entered 𝓤 H (tripleOf 𝓤 H (𝓖 .A) analyse-list.signature (analyse-list.spec 𝓤 H (𝓖 .A) (𝓜 .mem) (𝓡 .run)))
     (tables 𝓤 H 𝓜 𝓡 code.env .C) (tables 𝓤 H 𝓜 𝓡 code.env .Λ) #analyse-list code.function (code.unfolded 𝓤 H 𝓜 𝓡)
-    (meets u32 (tyInt w32) outcome-value list-analysed list-times set-outcome set-left outcome-gathered times-gathered
+    (meets u32 (tyInt w32) decision-value list-analysed list-times set-decision set-left decision-gathered times-gathered
     𝓤 H (𝓖 .A) (givenOf 𝓤 H 𝓜 𝓖) #gathered #analyse-set (tablesOf 𝓤 H 𝓜 (tables 𝓤 H 𝓜 𝓡 code.env))
     (cited 𝓤 H (tripleOf 𝓤 H (𝓖 .A) gathered.signature (gathered.spec 𝓤 H (𝓖 .A) (𝓜 .mem) (𝓡 .run))) 𝓜 𝓡 code.env #gathered gathered-def.routine code.calls-lists·gathered (gathered-thm.met 𝓤 H 𝓜 𝓖 𝓡))
     (cited 𝓤 H (tripleOf 𝓤 H (𝓖 .A) analyse-set.signature (analyse-set.spec 𝓤 H (𝓖 .A) (𝓜 .mem) (𝓡 .run))) 𝓜 𝓡 code.env #analyse-set analyse-set-def.routine code.calls-analysis·analyse-set (analyse-set-thm.met 𝓤 H 𝓜 𝓖 𝓡)))

@@ -1,4 +1,4 @@
--- The one number of an answer fits 32 bits: refusals name tasks below 32, and what else is answered is small.
+-- The one number of an answer fits 64 bits: refusals name tasks below 32, and what else is answered is small.
 use mathlib.Core.Bool.{Bool}
 use mathlib.Core.List.{List, [], _∷_, map}
 use mathlib.Core.Option.{none, some}
@@ -17,11 +17,12 @@ use Rattle.sheet.specs.Refusals.{task-of-refusal}
 use Rattle.records.specs.Rows.{unpacked}
 use Rattle.sheet.specs.Layout.{header-in, tasks-in, behind-header, record-width}
 use Rattle.lent.specs.Checks.{Check}
+use Rattle.lent.specs.Lent.{answered}
 use Rattle.lent.proofs.Checks.{Each, each-append}
 use Rattle.lent.proofs.Laid.{laid-to-length, laid-most}
 use Rattle.lent.proofs.Lent.{Told, turned-away, is-done, told, each-refusal}
 use Rattle.sheet.specs.Admission.{admission, list-checks, policy-check, task-count-check, frame-count-check, frame-count-checks, task-checks}
-use Rattle.sheet.specs.Reading.{sheet-checks, layout-checks, policy-of}
+use Rattle.sheet.specs.Reading.{sheet-checks, layout-checks, policy-of, tasks-of}
 use Rattle.sheet.specs.Writing.{writing, written}
 use Rattle.sheet.specs.declared.Refusal.{Refusal}
 use Rattle.sheet.specs.declared.Refusal.the-variants.{Room}
@@ -37,21 +38,22 @@ use Rattle.theory.specs.Analysis.{Verdict, holds, missed, verdict}
 use Rattle.order.specs.Order.{priority-order, ordered-set}
 use Rattle.order.proofs.Order.{order-permutes}
 use Rattle.analysis.specs.Times.{number-at, blocker-number, verdict-number, outcome-of}
-use Rattle.analysis.specs.Answers.{analysing, set-analysing, set-outcome}
-use Rattle.analysis.specs.declared.Outcome.{Outcome}
-use Rattle.analysis.specs.declared.Outcome.the-variants.{Refused as not-analysed}
+use Rattle.analysis.specs.Answers.{refused-decision, analysing, set-analysing, set-decision, sheet-analysing, sheet-decision}
+use Rattle.analysis.specs.declared.Decision.{Decision}
 use Rattle.analysis.proofs.Numbering.{number-in}
 use Rattle.sheet.proofs.Carried.{by-reading}
 use Rattle.sheet.proofs.Carried.{reading-answer as answer-read}
 use Rattle.records.proofs.Packing.{value-taken}
 use Rattle.sheet.proofs.RecordBits.{length-tasks-in}
 use Rattle.sheet.proofs.Sizes.{admitted-size}
 use Rattle.lists.specs.Lists.{gathered-of}
 use Rattle.lists.specs.Faces.{list-analysed, list-written, reading-list, list-read}
 use Rattle.lists.specs.declared.ListRead.{ListRead}
 use Rattle.lists.specs.declared.ListRead.the-variants.{TurnedAway as not-read}
-use Rattle.lists.specs.Codes.{refusal-code, written-code, read-code, outcome-code}
-use Rattle.lists.proofs.Faces.{written-gathered, outcome-gathered}
+use Rattle.workbench.specs.Numbers.{refused-number, read-number, written-number, outcome-number, decision-number}
+use Rattle.report_text.specs.Text.{reporting, report-written}
+use Rattle.report_text.proofs.Reported.{report-fits}
+use Rattle.lists.proofs.Faces.{written-gathered, decision-gathered}
 
 -- ---- the tasks that refusals name
 
@@ -77,7 +79,7 @@ layout-names k i (suc n) bits p h = (p, (omega arith, (p, layout-names k (suc i)
 abbrev below : Refusal → Type 0
 below r = task-of-refusal r < 32
 
-refusal-small : (r : Refusal) → task-of-refusal r < 32 → refusal-code r < 2 ^ 32
+refusal-small : (r : Refusal) → task-of-refusal r < 32 → refused-number r < 2 ^ 64
 refusal-small r h = let n = number-small r in omega arith
 
 -- ---- a list written
@@ -112,21 +114,21 @@ module _ (policy : ℕ) (list : List Record) (room : List ℕ) where
         ),
       )
 
-  pub written-small : written-code (list-written policy list room) < 2 ^ 32
+  pub written-small : written-number (list-written policy list room) < 2 ^ 64
   unfolding written writing admission gathered-of
-  written-small = subst (λ (w : Written). written-code w < 2 ^ 32) (written-gathered policy list room) (go (told Room not-written (writing set) room))
+  written-small = subst (λ (w : Written). written-number w < 2 ^ 64) (written-gathered policy list room) (go (told Room not-written (writing set) room))
     where
       checks : List (Check Refusal)
       checks = list-checks policy (set .«task_count») (records-of set)
 
-      go : Told Room not-written (writing set) room → written-code (written set room) < 2 ^ 32
+      go : Told Room not-written (writing set) room → written-number (written set room) < 2 ^ 64
       go (is-done d) =
           let size = admitted-size set (gathered-length policy list) (admits checks (d .admitted)) in
-          subst (λ (w : Written). written-code w < 2 ^ 32) (sym (d .answer)) (omega arith)
+          subst (λ (w : Written). written-number w < 2 ^ 64) (sym (d .answer)) (omega arith)
       go (turned-away r t) =
-          subst (λ (w : Written). written-code w < 2 ^ 32) (sym (t .answer)) (refusal-small r (each-refusal Room not-written (writing set) room below row-names (lit< tt) r (t .why)))
+          subst (λ (w : Written). written-number w < 2 ^ 64) (sym (t .answer)) (refusal-small r (each-refusal Room not-written (writing set) room below row-names (lit< tt) r (t .why)))
 
--- ---- a list analysed
+-- ---- tasks analysed
 
 -- a number of the order is that of a task
 number-few : (policy : ℕ) (tasks : List Task) (p : ℕ) → number-at (priority-order policy tasks) p ≤ length tasks
@@ -139,32 +141,37 @@ number-few policy tasks p = go (decLt p (length tasks))
         let long : length (priority-order policy tasks) ≤ p = omega (arith, order-permutes policy tasks .same-length) in
         subst (λ (k : ℕ). k ≤ length tasks) (sym (List·getD-eq-default (priority-order policy tasks) 0 long)) zero-le
 
-missed-small : (order : List ℕ) (v : Verdict) → ((p : ℕ) → number-at order p ≤ 32) → outcome-code (verdict-number order v) < 2 ^ 32
+outcome-small : (order : List ℕ) (v : Verdict) (n : ℕ) → n ≤ 32 → ((p : ℕ) → number-at order p ≤ 32) → outcome-number (verdict-number order v) n < 2 ^ 64
 unfolding verdict-number blocker-number
-missed-small order holds few = lit< tt
-missed-small order (missed p none) few = let n = few p in omega arith
-missed-small order (missed p (some b)) few = let n = few p in let m = few b in omega arith
+outcome-small order holds n h few = omega arith
+outcome-small order (missed p none) n h few = let i = few p in omega arith
+outcome-small order (missed p (some b)) n h few = let i = few p in let j = few b in omega arith
 
-module _ (policy : ℕ) (list : List Record) (room : List ℕ) where
-  pub outcome-small : outcome-code (list-analysed policy list room) < 2 ^ 32
-  unfolding set-outcome set-analysing analysing gathered-of outcome-of
-  outcome-small = subst (λ (o : Outcome). outcome-code o < 2 ^ 32) (outcome-gathered policy list room) (go (told Room not-analysed (set-analysing (set policy list room)) room))
+module _ (checks : List (Check Refusal)) (policy : ℕ) (tasks : List Task) (room : List ℕ) (names : Names 32 checks) (few : length tasks ≤ 32) where
+  abbrev Fits : Decision → Type 0
+  Fits d = decision-number d < 2 ^ 64
+
+  decided-small : Fits (answered Room refused-decision (analysing checks policy tasks) room)
+  unfolding analysing outcome-of
+  decided-small = go (told Room refused-decision (analysing checks policy tasks) room)
     where
-      records : List Record
-      records = records-of (set policy list room)
-
-      go : Told Room not-analysed (set-analysing (set policy list room)) room → outcome-code (set-outcome (set policy list room) room) < 2 ^ 32
+      go : Told Room refused-decision (analysing checks policy tasks) room → Fits (answered Room refused-decision (analysing checks policy tasks) room)
       go (is-done d) =
-          subst (λ (o : Outcome). outcome-code o < 2 ^ 32) (sym (d .answer))
-          (missed-small (priority-order policy (map task-in records)) (verdict (ordered-set policy (map task-in records)))
-          (λ p. omega (arith, number-few policy (map task-in records) p, records-few policy list room, length-map records task-in)))
+          subst Fits (sym (d .answer))
+          (outcome-small (priority-order policy tasks) (verdict (ordered-set policy tasks)) (length tasks) few (λ p. omega (arith, number-few policy tasks p)))
       go (turned-away r t) =
-          subst (λ (o : Outcome). outcome-code o < 2 ^ 32) (sym (t .answer))
-          (refusal-small r (each-refusal Room not-analysed (set-analysing (set policy list room)) room below (row-names policy list room) (lit< tt) r (t .why)))
+          subst Fits (sym (t .answer)) (refusal-small r (each-refusal Room refused-decision (analysing checks policy tasks) room below names (lit< tt) r (t .why)))
 
--- ---- a sheet read
+pub list-small : (policy : ℕ) (list : List Record) (room : List ℕ) → decision-number (list-analysed policy list room) < 2 ^ 64
+unfolding set-decision set-analysing gathered-of
+list-small policy list room =
+    let records : List Record = records-of (gathered-of policy list) in
+    subst (λ (d : Decision). decision-number d < 2 ^ 64) (decision-gathered policy list room)
+    (decided-small _ policy (map task-in records) room (row-names policy list room) (omega (arith, records-few policy list room, length-map records task-in)))
 
-module _ (s : List ℕ) (list : List Record) where
+-- ---- a sheet read and analysed
+
+module _ (s : List ℕ) where
   abbrev bits : List Bool
   bits = bits-of (body s)
 
@@ -200,13 +207,28 @@ module _ (s : List ℕ) (list : List Record) where
         ),
       )
 
-  pub read-small : read-code (list-read s list) < 2 ^ 32
+  pub sheet-small : (room : List ℕ) → decision-number (sheet-decision s room) < 2 ^ 64
+  unfolding sheet-decision sheet-analysing tasks-of
+  sheet-small room = decided-small (sheet-checks s) (policy-of s) (tasks-of s) room sheet-names (omega (arith, count-small, length-tasks-in n (behind-header bits)))
+
+  pub read-small : (list : List Record) → read-number (list-read s list) < 2 ^ 64
   unfolding list-read reading-list
-  read-small = go (told Room not-read (reading-list s) list)
+  read-small list = go (told Room not-read (reading-list s) list)
     where
-      go : Told Room not-read (reading-list s) list → read-code (list-read s list) < 2 ^ 32
+      go : Told Room not-read (reading-list s) list → read-number (list-read s list) < 2 ^ 64
       go (is-done d) =
           let c = by-reading s (answer-read s ∙ admits (sheet-checks s) (d .admitted)) in
-          subst (λ (x : ListRead). read-code x < 2 ^ 32) (sym (d .answer)) (omega (arith, known-small (policy-of s) (c .policy-known), c .few-tasks))
+          subst (λ (x : ListRead). read-number x < 2 ^ 64) (sym (d .answer)) (omega (arith, known-small (policy-of s) (c .policy-known), c .few-tasks))
       go (turned-away r t) =
-          subst (λ (x : ListRead). read-code x < 2 ^ 32) (sym (t .answer)) (refusal-small r (each-refusal Room not-read (reading-list s) list below sheet-names (lit< tt) r (t .why)))
+          subst (λ (x : ListRead). read-number x < 2 ^ 64) (sym (t .answer)) (refusal-small r (each-refusal Room not-read (reading-list s) list below sheet-names (lit< tt) r (t .why)))
+
+-- ---- a report
+
+pub report-small : (s room : List ℕ) → written-number (report-written s room) < 2 ^ 64
+unfolding report-written reporting
+report-small s room = go (told Room not-written (reporting s) room)
+  where
+    go : Told Room not-written (reporting s) room → written-number (report-written s room) < 2 ^ 64
+    go (is-done d) = subst (λ (w : Written). written-number w < 2 ^ 64) (sym (d .answer)) (omega (arith, report-fits s))
+    go (turned-away r t) =
+        subst (λ (w : Written). written-number w < 2 ^ 64) (sym (t .answer)) (refusal-small r (each-refusal Room not-written (reporting s) room below tt (lit< tt) r (t .why)))
