@@ -372,6 +372,13 @@ module _ (sheet : List ℕ) where
         λ e. rw (is ∙ sym same ∙ e, answered),
       )
 
+pub print-exactly : (sheet before : List ℕ) (why : Refusal)
+    → (report-written sheet before ≡ not-written why) ↔ (refusal-to Admitted (length (report sheet)) (length before) ≡ some why)
+unfolding report-written reporting decided first-refusal
+print-exactly sheet before =
+    exactly not-written (reporting sheet) before (length (report sheet)) (λ e. refl)
+    (λ r e. let z : _≡_ {A = ℕ} 0 1 = cc in omega arith) (λ q r e. let z : q ≡ r = cc in z)
+
 -- ---- a refused call changes nothing
 
 module _ {A X : Type 0} (refused : Refusal → X) (call : Call Refusal A X) (never : (r : Refusal) → ¬ (call .says ≡ refused r)) (before : List A) where
@@ -402,3 +409,7 @@ module _ (r : Refusal) where
   pub write-unchanged : (policy : ℕ) (list : List Record) (before : List ℕ) → list-written policy list before ≡ not-written r → list-left policy list before ≡ before
   unfolding list-written list-left writing-list
   write-unchanged policy list before = unchanged not-written (writing-list policy list) (λ q e. let z : _≡_ {A = ℕ} 0 1 = cc in omega arith) before r
+
+  pub print-unchanged : (sheet before : List ℕ) → report-written sheet before ≡ not-written r → report-left sheet before ≡ before
+  unfolding report-written report-left reporting
+  print-unchanged sheet before = unchanged not-written (reporting sheet) (λ q e. let z : _≡_ {A = ℕ} 0 1 = cc in omega arith) before r

@@ -2,6 +2,7 @@
 use mathlib.Core.Bool.{true, false}
 use mathlib.Core.Path.{_≡_, refl, sym, ap, ap₂, _∙_}
 use Prim.Native.Nat.{ℕ, _+_, _-_, _*_, _/_, _%_, _≤_, _<_}
+use native.Mathlib.Nat.{zero-add, mod-eq-of-lt}
 use native.Mathlib.Omega.{arith}
 use borrow.Author.Tests.{lt-ltb, le-ltb, eq-eqb, ne-eqb}
 use lib.Dec.{eqb, lit<, lit≤}
@@ -133,7 +134,8 @@ unfolding list-read-by
 read-back (Set policy count) h =
     let (known, few) = h policy count refl in
     let low : (count + 256 * policy) % 256 ≡ count = omega arith in
-    let high : (count + 256 * policy) / 256 % 256 ≡ policy = omega arith in
+    let above : (count + 256 * policy) / 256 ≡ policy = omega arith in
+    let high : (count + 256 * policy) / 256 % 256 ≡ policy = ap (λ (x : ℕ). x % 256) above ∙ mod-eq-of-lt known in
     rw (with-none (count + 256 * policy), detail (count + 256 * policy), low, high)
 read-back (not-read r) h = rw (with-refusal r) (ap not-read (refused-back r))
 
@@ -148,7 +150,8 @@ analysed-back : (m n : ℕ) → m < 65536 → n < 256 → analysed-by (m + 65536
 unfolding analysed-by
 analysed-back m n h l =
     let low : (m + 65536 * n) % 65536 ≡ m = omega arith in
-    let high : (m + 65536 * n) / 65536 % 256 ≡ n = omega arith in
+    let above : (m + 65536 * n) / 65536 ≡ n = omega arith in
+    let high : (m + 65536 * n) / 65536 % 256 ≡ n = ap (λ (x : ℕ). x % 256) above ∙ mod-eq-of-lt l in
     rw (low, high)
 
 -- a decision whose parts have room in their bits
@@ -159,7 +162,7 @@ InBits (not-analysed why) n = n ≡ 0
 
 pub decision-back : (o : Outcome) (n : ℕ) → InBits o n → decision-by (outcome-number o n) ≡ record { outcome = o; «task_count» = n }
 unfolding decision-by InBits verdict-by
-decision-back Holds n l = rw (with-none (65536 * n), detail (65536 * n)) (analysed-back 0 n (lit< tt) l)
+decision-back Holds n l = rw (with-none (65536 * n), detail (65536 * n)) (ap analysed-by (sym (zero-add (65536 * n))) ∙ analysed-back 0 n (lit< tt) l)
 decision-back (Missed p b) n (h, few, l) =
     let (same, small) = blocker-back b few in
     let m : ℕ = 1 + 17 * p + blocker-code b in

@@ -5,13 +5,16 @@ use mathlib.Core.Logic.{_⊎_, inl, inr}
 use mathlib.Core.Path.{_≡_, refl, sym, ap, ap₂, _∙_, subst}
 use Prim.Native.Nat.{ℕ, zero, suc, _+_, _^_, _≤_, _<_}
 use native.Mathlib.Omega.{arith}
-use lib.ListN.{length}
-use lib.Seq.{take-at}
+use lib.ListN.{length, take}
+use lib.Seq.{take-at, drop-at}
 use Rattle.theory.specs.Tasks.{Task, task-at, frame-count, shortest-deadline}
 use Rattle.theory.specs.Analysis.{lower, blocking, passes}
 use Rattle.lent.specs.Lent.{laid}
+use Rattle.lent.proofs.Laid.{take-laid}
 use Rattle.sheet.specs.Refusals.{number-of}
+use Rattle.sheet.specs.Reading.{policy-of, tasks-of}
 use Rattle.sheet.specs.declared.Refusal.{Refusal}
+use Rattle.sheet.specs.declared.Written.{Written}
 use Rattle.order.specs.Order.{priority-order, ordered-set}
 use Rattle.order.specs.declared.Blocker.{Blocker}
 use Rattle.order.specs.declared.Blocker.the-variants.{At, Nobody}
@@ -27,15 +30,16 @@ use Rattle.analysis.proofs.Numbering.{number-in as number-below}
 use Rattle.analysis.proofs.TimesAt.{length-times}
 use Rattle.analysis.proofs.Promises.{outcome-not-refused, holds-then-passes, missed-names, times-of-place}
 use Rattle.report_text.specs.Words.{holds-word, missed-word, refused-word, decimal, line}
-use Rattle.report_text.specs.Report.{blocker-word, first-line, time-words, task-line, task-lines}
+use Rattle.report_text.specs.Report.{blocker-word, first-line, time-words, task-line, task-lines, report}
 use Rattle.report_text.specs.Text.{text-of}
+use Rattle.report_text.proofs.Reported.{report-fits}
 use Rattle.signed.specs.Claims.{missed, refused, said, in-numbers, WorstTime, Signed}
-use Rattle.signed.specs.Reports.{words-in, blocker-in, said-in, task-words, TimedWords, MissedWords, WordsUpTo, lines, Lines, text-in, ReportSigned}
+use Rattle.signed.specs.Reports.{words-in, blocker-in, said-in, task-words, TimedWords, MissedWords, WordsUpTo, lines, Lines, text-in, ReportSigned, ReportLeft}
 use Rattle.signed.proofs.Words.{Plain, AllPlain, words-of-line, decimal-plain, decimal-no-dash, number-read}
 use Rattle.signed.proofs.Numbers.{refusal-range}
 use Rattle.signed.proofs.Times.{worst-time, some-miss}
 use Rattle.signed.proofs.Promised.{laid-signed}
-use Rattle.signed.proofs.Entries.{Sound, Reported, no-report, is-reported}
+use Rattle.signed.proofs.Entries.{Sound, Reported, no-report, is-reported, report-entry, Printed, no-room, is-printed}
 
 -- the text that a report has
 pub text-back : (l : List ℕ) → text-in (text-of l) ≡ l
@@ -238,3 +242,15 @@ module _ (policy : ℕ) (tasks : List Task) (why : Refusal) where
 pub report-promised : (policy : ℕ) (tasks : List Task) (text : List ℕ) → Reported policy tasks text → ReportSigned policy tasks text (said-in (words-in text))
 report-promised policy tasks text (no-report why) = refusal-signed policy tasks why
 report-promised policy tasks text (is-reported sound) = text-signed policy tasks sound
+
+-- the text in lent bytes
+pub printed-signed : (sheet before : List ℕ) {answer : Written} {after : List ℕ} → Printed sheet before answer after
+    → ReportLeft (policy-of sheet) (tasks-of sheet) before after answer
+unfolding ReportLeft laid
+printed-signed sheet before no-room = (refl, refl)
+printed-signed sheet before (is-printed fits) =
+    let text : take (length (report sheet)) (laid (report sheet) before) ≡ report sheet = take-laid (report sheet) before in (
+      rw text (report-promised (policy-of sheet) (tasks-of sheet) (report sheet) (report-entry sheet)),
+      drop-at (report sheet) _ (length (report sheet)) refl,
+      report-fits sheet,
+    )

@@ -38,8 +38,8 @@ use Rattle.order.proofs.Order.{order-permutes}
 use Rattle.order.proofs.Laws.{ordered-length}
 use Rattle.analysis.specs.Times.{number-at}
 use Rattle.analysis.specs.Runs.{place}
-use Rattle.analysis.specs.declared.Outcome.{Outcome}
-use Rattle.analysis.specs.declared.Outcome.the-variants.{Refused}
+use Rattle.analysis.specs.Answers.{refused-decision}
+use Rattle.analysis.specs.declared.Decision.{Decision}
 use Rattle.analysis.proofs.Numbering.{number-in, number-back, place-back}
 use Rattle.analysis.proofs.Promises.{place-below, task-of-number}
 use Rattle.lists.specs.Faces.{list-read, list-filled, list-written, list-left, list-analysed}
@@ -48,15 +48,16 @@ use Rattle.lists.specs.declared.ListRead.the-variants.{Set}
 use Rattle.lists.specs.declared.ListRead.the-variants.{TurnedAway as not-read}
 use Rattle.report_text.specs.Words.{refused-word, decimal, line}
 use Rattle.report_text.specs.Report.{first-line, report}
+use Rattle.report_text.specs.Text.{report-written}
 use Rattle.report_text.specs.declared.Text.{Text}
-use Rattle.signed.specs.Calls.{ReportText, AnalyseSet, AnalyseSheet, AnalyseList, ReadList, WriteList, CheckSheetC, AnalyseListC, ReadListC, WriteListC}
-use Rattle.signed.specs.Claims.{said, holds, missed, refused, in-numbers, in-bytes, WorstTime, Signed, refusal-to, Damaged}
-use Rattle.signed.specs.Numbers.{blocker-by, said-by, IsNumber, list-read-by, list-written-by, list-outcome-by}
-use Rattle.signed.specs.Reports.{words-in, said-in, text-in, ReportSigned}
-use Rattle.signed.proofs.Report.{text-back, not-refusing, refusing, report-promised}
-use Rattle.signed.proofs.Numbers.{miss-said, refusal-said, said-back, written-back, read-back, outcome-back}
+use Rattle.signed.specs.Calls.{ReportText, WriteReport, AnalyseSet, AnalyseSheet, AnalyseList, ReadList, WriteList, CheckSheetC, AnalyseSheetC, AnalyseListC, ReadListC, WriteListC, ReportC}
+use Rattle.signed.specs.Claims.{said, count-said, holds, missed, refused, in-numbers, in-bytes, WorstTime, Signed, refusal-to, Damaged}
+use Rattle.signed.specs.Numbers.{blocker-by, said-by, IsNumber, list-read-by, written-by, decision-by}
+use Rattle.signed.specs.Reports.{words-in, said-in, text-in, ReportSigned, ReportLeft}
+use Rattle.signed.proofs.Report.{text-back, not-refusing, refusing, report-promised, printed-signed}
+use Rattle.signed.proofs.Numbers.{miss-said, refusal-said, said-back, written-back, read-back, decision-back}
 use Rattle.signed.proofs.Entries as entries
-use Rattle.signed.proofs.Promised.{promised, few-of, number-given, number-refused, outcome-number}
+use Rattle.signed.proofs.Promised.{promised, few-of, in-bits, counted, number-given, number-refused, outcome-number}
 use Rattle.signed.proofs.RoundTrip as trip
 use Rattle.signed.proofs.Damage as damage
 
@@ -100,16 +101,22 @@ pub check-sheet-c-number : (sheet before after : List ℕ) (number : ℕ)
     → CheckSheetC sheet before number after
     → IsNumber (length (tasks-of sheet)) number
 check-sheet-c-number sheet before after number c =
-    let (outcome, same, a) = entries.check-entry sheet before in
-    rw (c .answers ∙ same) (number-given (policy-of sheet) (tasks-of sheet) in-bytes before _ outcome (promised a))
+    let (decided, same, a) = entries.check-entry sheet before in
+    rw (c .answers ∙ same) (number-given (policy-of sheet) (tasks-of sheet) in-bytes before _ (decided .outcome) (promised a))
 
--- The list entries for C are those for Rattle, with the answer that their number says.
+-- Every other entry for C is one for Rattle, with the answer that its number says.
+pub analyse-sheet-c-says : (sheet before after : List ℕ) (number : ℕ)
+    → AnalyseSheetC sheet before number after
+    → AnalyseSheet sheet before (decision-by number) after
+analyse-sheet-c-says sheet before after number c =
+    record { answers = ap decision-by (c .answers) ∙ decision-back _ _ (in-bits (entries.sheet-entry sheet before)); leaves = c .leaves }
+
 pub analyse-list-c-says : (policy : ℕ) (list : List Record) (before after : List ℕ) (number : ℕ)
     → AnalyseListC policy list before number after
-    → AnalyseList policy list before (list-outcome-by number) after
+    → AnalyseList policy list before (decision-by number) after
 analyse-list-c-says policy list before after number c =
     record {
-      answers = ap list-outcome-by (c .answers) ∙ outcome-back (list-analysed policy list before) (few-of (entries.list-entry policy list before));
+      answers = ap decision-by (c .answers) ∙ decision-back _ _ (in-bits (entries.list-entry policy list before));
       leaves = c .leaves;
     }
 
@@ -121,26 +128,32 @@ read-list-c-says sheet before after number c =
 
 pub write-list-c-says : (policy : ℕ) (list : List Record) (before after : List ℕ) (number : ℕ)
     → WriteListC policy list before number after
-    → WriteList policy list before (list-written-by number) after
+    → WriteList policy list before (written-by number) after
 write-list-c-says policy list before after number c =
-    record { answers = ap list-written-by (c .answers) ∙ written-back (list-written policy list before); leaves = c .leaves }
+    record { answers = ap written-by (c .answers) ∙ written-back (list-written policy list before); leaves = c .leaves }
+
+pub report-c-says : (sheet before after : List ℕ) (number : ℕ)
+    → ReportC sheet before number after
+    → WriteReport sheet before (written-by number) after
+report-c-says sheet before after number c =
+    record { answers = ap written-by (c .answers) ∙ written-back (report-written sheet before); leaves = c .leaves }
 
 -- ---- Demand 1: every input is admitted or gets the one refusal that the order names; 12 comes last
 
-pub analyse-set-turned : (set : TaskSet) (before after : List ℕ) (answer : Outcome) → length (set .tasks) ≡ most-tasks
+pub analyse-set-turned : (set : TaskSet) (before after : List ℕ) (answer : Decision) → length (set .tasks) ≡ most-tasks
     → AnalyseSet set before answer after
-    → (why : Refusal) → (answer ≡ Refused why) ↔ (refusal-to (admission set) (most-frames * length (map task-in (records-of set))) (length before) ≡ some why)
+    → (why : Refusal) → (answer ≡ refused-decision why) ↔ (refusal-to (admission set) (most-frames * length (map task-in (records-of set))) (length before) ≡ some why)
 analyse-set-turned set before after answer sixteen c why = rw (c .answers) (entries.set-exactly set before sixteen why)
 
-pub analyse-sheet-turned : (sheet before after : List ℕ) (answer : Outcome)
+pub analyse-sheet-turned : (sheet before after : List ℕ) (answer : Decision)
     → AnalyseSheet sheet before answer after
-    → (why : Refusal) → (answer ≡ Refused why) ↔ (refusal-to (reading sheet .answer) (most-frames * length (tasks-of sheet)) (length before) ≡ some why)
+    → (why : Refusal) → (answer ≡ refused-decision why) ↔ (refusal-to (reading sheet .answer) (most-frames * length (tasks-of sheet)) (length before) ≡ some why)
 analyse-sheet-turned sheet before after answer c why = rw (c .answers) (entries.sheet-exactly sheet before why)
 
-pub analyse-list-turned : (policy : ℕ) (list : List Record) (before after : List ℕ) (answer : Outcome)
+pub analyse-list-turned : (policy : ℕ) (list : List Record) (before after : List ℕ) (answer : Decision)
     → AnalyseList policy list before answer after
     → (why : Refusal)
-    → (answer ≡ Refused why) ↔ (refusal-to (decided (list-checks policy (length list) list)) (most-frames * length (map task-in list)) (length before) ≡ some why)
+    → (answer ≡ refused-decision why) ↔ (refusal-to (decided (list-checks policy (length list) list)) (most-frames * length (map task-in list)) (length before) ≡ some why)
 analyse-list-turned policy list before after answer c why = rw (c .answers) (entries.list-exactly policy list before why)
 
 pub read-list-turned : (sheet : List ℕ) (before after : List Record) (answer : ListRead)
@@ -154,6 +167,12 @@ pub write-list-turned : (policy : ℕ) (list : List Record) (before after : List
     → (answer ≡ not-written why)
     ↔ (refusal-to (decided (list-checks policy (length list) list)) (length (sheet-of policy (map task-in list))) (length before) ≡ some why)
 write-list-turned policy list before after answer c why = rw (c .answers) (entries.write-exactly policy list before why)
+
+-- a report is refused for want of room alone
+pub write-report-turned : (sheet before after : List ℕ) (answer : Written)
+    → WriteReport sheet before answer after
+    → (why : Refusal) → (answer ≡ not-written why) ↔ (refusal-to Admitted (length (report sheet)) (length before) ≡ some why)
+write-report-turned sheet before after answer c why = rw (c .answers) (entries.print-exactly sheet before why)
 
 -- the number is that of the refusal; where there is none it is not from 1 to 12
 pub check-sheet-c-turned : (sheet before after : List ℕ) (number : ℕ)
@@ -183,14 +202,14 @@ report-text-turned sheet answer c =
 
 -- ---- Demand 1: a refused call changes nothing
 
-pub analyse-set-refused : (set : TaskSet) (before after : List ℕ) (why : Refusal) → AnalyseSet set before (Refused why) after → after ≡ before
+pub analyse-set-refused : (set : TaskSet) (before after : List ℕ) (why : Refusal) → AnalyseSet set before (refused-decision why) after → after ≡ before
 analyse-set-refused set before after why c = c .leaves ∙ entries.set-unchanged why set before (sym (c .answers))
 
-pub analyse-sheet-refused : (sheet before after : List ℕ) (why : Refusal) → AnalyseSheet sheet before (Refused why) after → after ≡ before
+pub analyse-sheet-refused : (sheet before after : List ℕ) (why : Refusal) → AnalyseSheet sheet before (refused-decision why) after → after ≡ before
 analyse-sheet-refused sheet before after why c = c .leaves ∙ entries.sheet-unchanged why sheet before (sym (c .answers))
 
 pub analyse-list-refused : (policy : ℕ) (list : List Record) (before after : List ℕ) (why : Refusal)
-    → AnalyseList policy list before (Refused why) after → after ≡ before
+    → AnalyseList policy list before (refused-decision why) after → after ≡ before
 analyse-list-refused policy list before after why c = c .leaves ∙ entries.list-unchanged why policy list before (sym (c .answers))
 
 pub read-list-refused : (sheet : List ℕ) (before after : List Record) (why : Refusal) → ReadList sheet before (not-read why) after → after ≡ before
@@ -200,10 +219,13 @@ pub write-list-refused : (policy : ℕ) (list : List Record) (before after : Lis
     → WriteList policy list before (not-written why) after → after ≡ before
 write-list-refused policy list before after why c = c .leaves ∙ entries.write-unchanged why policy list before (sym (c .answers))
 
+pub write-report-refused : (sheet before after : List ℕ) (why : Refusal) → WriteReport sheet before (not-written why) after → after ≡ before
+write-report-refused sheet before after why c = c .leaves ∙ entries.print-unchanged why sheet before (sym (c .answers))
+
 pub check-sheet-c-refused : (sheet before after : List ℕ) (number : ℕ) → 1 ≤ number → number ≤ 12
     → CheckSheetC sheet before number after → after ≡ before
 check-sheet-c-refused sheet before after number l h c =
-    let (outcome, same, a) = entries.check-entry sheet before in
+    let (decided, same, a) = entries.check-entry sheet before in
     let e = c .answers ∙ same in
     c .leaves ∙ number-refused a (rw e at l) (rw e at h)
 
@@ -214,11 +236,15 @@ pub one-bit-damages : (sheet : List ℕ) (i : ℕ) → IsBytes sheet → i < 8 *
 one-bit-damages sheet i = damage.one-bit sheet i
 
 module _ (sheet changed : List ℕ) (admitted : reading sheet .answer ≡ Admitted) (damaged : Damaged sheet changed) where
-  pub analyse-sheet-damaged : (before after : List ℕ) (answer : Outcome) → AnalyseSheet changed before answer after
-      → (answer ≡ Refused CheckWord) × (after ≡ before)
+  pub analyse-sheet-damaged : (before after : List ℕ) (answer : Decision) → AnalyseSheet changed before answer after
+      → (answer ≡ refused-decision CheckWord) × (after ≡ before)
   analyse-sheet-damaged before after answer c =
       let t = entries.sheet-turned changed CheckWord (damage.damaged-is-2 sheet changed admitted damaged) before in
       (c .answers ∙ t .0, c .leaves ∙ t .1)
+
+  pub analyse-sheet-c-damaged : (before after : List ℕ) (number : ℕ) → AnalyseSheetC changed before number after
+      → (decision-by number ≡ refused-decision CheckWord) × (after ≡ before)
+  analyse-sheet-c-damaged before after number c = analyse-sheet-damaged before after (decision-by number) (analyse-sheet-c-says changed before after number c)
 
   pub check-sheet-c-damaged : (before after : List ℕ) (number : ℕ) → CheckSheetC changed before number after
       → (number ≡ 2) × (after ≡ before)
@@ -293,7 +319,7 @@ read-then-write-list sheet room written before after policy n answer byte r fits
 
 -- The same through C.
 pub write-then-read-list-c : (policy : ℕ) (list before after : List Record) (room written : List ℕ) (n number answer : ℕ)
-    → WriteListC policy list room number written → list-written-by number ≡ Bytes n
+    → WriteListC policy list room number written → written-by number ≡ Bytes n
     → length list ≤ length before
     → ReadListC (take n written) before answer after
     → (list-read-by answer ≡ Set policy (length list))
@@ -307,11 +333,11 @@ pub read-then-write-list-c : (sheet room written : List ℕ) (before after : Lis
     → ReadListC sheet before number after → list-read-by number ≡ Set policy n
     → length sheet ≤ length room
     → WriteListC policy (take n after) room answer written
-    → (list-written-by answer ≡ Bytes (length sheet))
+    → (written-by answer ≡ Bytes (length sheet))
     × (take (length sheet) written ≡ sheet)
     × (drop (length sheet) written ≡ drop (length sheet) room)
 read-then-write-list-c sheet room written before after policy n number answer byte r e fits w =
-    read-then-write-list sheet room written before after policy n (list-written-by answer) byte
+    read-then-write-list sheet room written before after policy n (written-by answer) byte
     (rw e at (read-list-c-says sheet before after number r)) fits (write-list-c-says policy (take n after) room written answer w)
 
 -- ---- Demand 3: a time that is written is a time
@@ -323,21 +349,21 @@ no-worst-time-is-zero policy tasks i k w = omega (arith, w .least .positive)
 -- ---- Demand 3: what the answer says is so of every run, and the lent memory holds the worst times
 
 -- `analyse_set`. A set by value has sixteen records, of which `task_count` are in use.
-pub analyse-set-signed : (set : TaskSet) (before after : List ℕ) (answer : Outcome) → length (set .tasks) ≡ most-tasks
+pub analyse-set-signed : (set : TaskSet) (before after : List ℕ) (answer : Decision) → length (set .tasks) ≡ most-tasks
     → AnalyseSet set before answer after
-    → Signed (set .policy) (map task-in (records-of set)) in-numbers before after (said answer)
+    → Signed (set .policy) (map task-in (records-of set)) in-numbers before after (said (answer .outcome))
 analyse-set-signed set before after answer sixteen c = rw (c .answers, c .leaves) (promised (entries.set-entry set before sixteen))
 
 -- `analyse_sheet`
-pub analyse-sheet-signed : (sheet before after : List ℕ) (answer : Outcome)
+pub analyse-sheet-signed : (sheet before after : List ℕ) (answer : Decision)
     → AnalyseSheet sheet before answer after
-    → Signed (policy-of sheet) (tasks-of sheet) in-numbers before after (said answer)
+    → Signed (policy-of sheet) (tasks-of sheet) in-numbers before after (said (answer .outcome))
 analyse-sheet-signed sheet before after answer c = rw (c .answers, c .leaves) (promised (entries.sheet-entry sheet before))
 
 -- `analyse_list`
-pub analyse-list-signed : (policy : ℕ) (list : List Record) (before after : List ℕ) (answer : Outcome)
+pub analyse-list-signed : (policy : ℕ) (list : List Record) (before after : List ℕ) (answer : Decision)
     → AnalyseList policy list before answer after
-    → Signed policy (map task-in list) in-numbers before after (said answer)
+    → Signed policy (map task-in list) in-numbers before after (said (answer .outcome))
 analyse-list-signed policy list before after answer c = rw (c .answers, c .leaves) (promised (entries.list-entry policy list before))
 
 -- `burrbeech_check_sheet`: what its number says, and the times in four bytes each
@@ -345,14 +371,20 @@ pub check-sheet-c-signed : (sheet before after : List ℕ) (number : ℕ)
     → CheckSheetC sheet before number after
     → Signed (policy-of sheet) (tasks-of sheet) in-bytes before after (said-by number)
 check-sheet-c-signed sheet before after number c =
-    let (outcome, same, a) = entries.check-entry sheet before in
-    rw (c .answers ∙ same, c .leaves, said-back outcome (few-of a)) (promised a)
+    let (decided, same, a) = entries.check-entry sheet before in
+    rw (c .answers ∙ same, c .leaves, said-back (decided .outcome) (few-of a)) (promised a)
+
+pub analyse-sheet-c-signed : (sheet before after : List ℕ) (number : ℕ)
+    → AnalyseSheetC sheet before number after
+    → Signed (policy-of sheet) (tasks-of sheet) in-numbers before after (said (decision-by number .outcome))
+analyse-sheet-c-signed sheet before after number c =
+    analyse-sheet-signed sheet before after (decision-by number) (analyse-sheet-c-says sheet before after number c)
 
 pub analyse-list-c-signed : (policy : ℕ) (list : List Record) (before after : List ℕ) (number : ℕ)
     → AnalyseListC policy list before number after
-    → Signed policy (map task-in list) in-numbers before after (said (list-outcome-by number))
+    → Signed policy (map task-in list) in-numbers before after (said (decision-by number .outcome))
 analyse-list-c-signed policy list before after number c =
-    analyse-list-signed policy list before after (list-outcome-by number) (analyse-list-c-says policy list before after number c)
+    analyse-list-signed policy list before after (decision-by number) (analyse-list-c-says policy list before after number c)
 
 -- `report_text`: what the first line says, and the line of each task
 pub report-text-signed : (sheet : List ℕ) (answer : Text)
@@ -361,15 +393,43 @@ pub report-text-signed : (sheet : List ℕ) (answer : Text)
 report-text-signed sheet answer c =
     rw (ap text-in (c .answers) ∙ text-back (report sheet)) (report-promised (policy-of sheet) (tasks-of sheet) (report sheet) (entries.report-entry sheet))
 
+-- the same of its text in lent bytes
+pub write-report-signed : (sheet before after : List ℕ) (answer : Written)
+    → WriteReport sheet before answer after
+    → ReportLeft (policy-of sheet) (tasks-of sheet) before after answer
+write-report-signed sheet before after answer c = rw (c .answers, c .leaves) (printed-signed sheet before (entries.print-entry sheet before))
+
+pub report-c-signed : (sheet before after : List ℕ) (number : ℕ)
+    → ReportC sheet before number after
+    → ReportLeft (policy-of sheet) (tasks-of sheet) before after (written-by number)
+report-c-signed sheet before after number c = write-report-signed sheet before after (written-by number) (report-c-says sheet before after number c)
+
+-- ---- The count that an answer gives is that of the tasks; 0 where the call is refused
+
+pub analyse-set-counts : (set : TaskSet) (before after : List ℕ) (answer : Decision) → length (set .tasks) ≡ most-tasks
+    → AnalyseSet set before answer after
+    → answer .«task_count» ≡ count-said (length (map task-in (records-of set))) (said (answer .outcome))
+analyse-set-counts set before after answer sixteen c = rw (c .answers) (counted (entries.set-entry set before sixteen))
+
+pub analyse-sheet-counts : (sheet before after : List ℕ) (answer : Decision)
+    → AnalyseSheet sheet before answer after
+    → answer .«task_count» ≡ count-said (length (tasks-of sheet)) (said (answer .outcome))
+analyse-sheet-counts sheet before after answer c = rw (c .answers) (counted (entries.sheet-entry sheet before))
+
+pub analyse-list-counts : (policy : ℕ) (list : List Record) (before after : List ℕ) (answer : Decision)
+    → AnalyseList policy list before answer after
+    → answer .«task_count» ≡ count-said (length (map task-in list)) (said (answer .outcome))
+analyse-list-counts policy list before after answer c = rw (c .answers) (counted (entries.list-entry policy list before))
+
 -- ---- For the same input a second conforming call answers and leaves the same
 
-pub one-analyse-set : (set : TaskSet) (before x y : List ℕ) (a b : Outcome) → AnalyseSet set before a x → AnalyseSet set before b y → (a ≡ b) × (x ≡ y)
+pub one-analyse-set : (set : TaskSet) (before x y : List ℕ) (a b : Decision) → AnalyseSet set before a x → AnalyseSet set before b y → (a ≡ b) × (x ≡ y)
 one-analyse-set set before x y a b c d = (c .answers ∙ sym (d .answers), c .leaves ∙ sym (d .leaves))
 
-pub one-analyse-sheet : (sheet before x y : List ℕ) (a b : Outcome) → AnalyseSheet sheet before a x → AnalyseSheet sheet before b y → (a ≡ b) × (x ≡ y)
+pub one-analyse-sheet : (sheet before x y : List ℕ) (a b : Decision) → AnalyseSheet sheet before a x → AnalyseSheet sheet before b y → (a ≡ b) × (x ≡ y)
 one-analyse-sheet sheet before x y a b c d = (c .answers ∙ sym (d .answers), c .leaves ∙ sym (d .leaves))
 
-pub one-analyse-list : (policy : ℕ) (list : List Record) (before x y : List ℕ) (a b : Outcome)
+pub one-analyse-list : (policy : ℕ) (list : List Record) (before x y : List ℕ) (a b : Decision)
     → AnalyseList policy list before a x → AnalyseList policy list before b y → (a ≡ b) × (x ≡ y)
 one-analyse-list policy list before x y a b c d = (c .answers ∙ sym (d .answers), c .leaves ∙ sym (d .leaves))
 
@@ -382,6 +442,9 @@ one-write-list policy list before x y a b c d = (c .answers ∙ sym (d .answers)
 
 pub one-check-sheet-c : (sheet before x y : List ℕ) (a b : ℕ) → CheckSheetC sheet before a x → CheckSheetC sheet before b y → (a ≡ b) × (x ≡ y)
 one-check-sheet-c sheet before x y a b c d = (c .answers ∙ sym (d .answers), c .leaves ∙ sym (d .leaves))
+
+pub one-analyse-sheet-c : (sheet before x y : List ℕ) (a b : ℕ) → AnalyseSheetC sheet before a x → AnalyseSheetC sheet before b y → (a ≡ b) × (x ≡ y)
+one-analyse-sheet-c sheet before x y a b c d = (c .answers ∙ sym (d .answers), c .leaves ∙ sym (d .leaves))
 
 pub one-analyse-list-c : (policy : ℕ) (list : List Record) (before x y : List ℕ) (a b : ℕ)
     → AnalyseListC policy list before a x → AnalyseListC policy list before b y → (a ≡ b) × (x ≡ y)
@@ -396,3 +459,9 @@ one-write-list-c policy list before x y a b c d = (c .answers ∙ sym (d .answer
 
 pub one-report-text : (sheet : List ℕ) (a b : Text) → ReportText sheet a → ReportText sheet b → a ≡ b
 one-report-text sheet a b c d = c .answers ∙ sym (d .answers)
+
+pub one-write-report : (sheet before x y : List ℕ) (a b : Written) → WriteReport sheet before a x → WriteReport sheet before b y → (a ≡ b) × (x ≡ y)
+one-write-report sheet before x y a b c d = (c .answers ∙ sym (d .answers), c .leaves ∙ sym (d .leaves))
+
+pub one-report-c : (sheet before x y : List ℕ) (a b : ℕ) → ReportC sheet before a x → ReportC sheet before b y → (a ≡ b) × (x ≡ y)
+one-report-c sheet before x y a b c d = (c .answers ∙ sym (d .answers), c .leaves ∙ sym (d .leaves))

@@ -4,9 +4,9 @@ ghost use lib.ListN.{take};
 ghost use Rattle.sheet.specs.Tasks.{task-in};
 ghost use Rattle.sheet.specs.Reading.{policy-of, tasks-of};
 ghost use Rattle.signed.specs.Claims.{said, in-numbers, in-bytes, Signed};
-ghost use Rattle.signed.specs.Numbers.{said-by};
-ghost use Rattle.signed.specs.Reports.{words-in, said-in, text-in, ReportSigned};
-use analysis::Outcome;
+ghost use Rattle.signed.specs.Numbers.{said-by, written-by, decision-by};
+ghost use Rattle.signed.specs.Reports.{words-in, said-in, text-in, ReportSigned, ReportLeft};
+use analysis::Decision;
 use report_text::Text;
 use sheet::Sheet;
 use sheet::Task;
@@ -17,8 +17,8 @@ fn analyse_set(
     count: u32,
     tasks: [Task; Sheet::TASK_ROOM],
     times: &mut [u32],
-) -> Outcome
-    ensures { λ r. ⌜ Signed policy (map task-in (take count tasks)) in-numbers (now (times .entry)) (now (times .exit)) (said r) ⌝ }
+) -> Decision
+    ensures { λ r. ⌜ Signed policy (map task-in (take count tasks)) in-numbers (now (times .entry)) (now (times .exit)) (said (r .outcome)) ⌝ }
 {
     let set = TaskSet {
         policy,
@@ -28,8 +28,8 @@ fn analyse_set(
     analysis::analyse_set(set, times)
 }
 
-fn analyse_sheet(bytes: &[u8], times: &mut [u32]) -> Outcome
-    ensures { λ r. ⌜ Signed (policy-of (now (bytes .entry))) (tasks-of (now (bytes .entry))) in-numbers (now (times .entry)) (now (times .exit)) (said r) ⌝ }
+fn analyse_sheet(bytes: &[u8], times: &mut [u32]) -> Decision
+    ensures { λ r. ⌜ Signed (policy-of (now (bytes .entry))) (tasks-of (now (bytes .entry))) in-numbers (now (times .entry)) (now (times .exit)) (said (r .outcome)) ⌝ }
 {
     analysis::analyse_sheet(bytes, times)
 }
@@ -38,6 +38,18 @@ fn check_sheet(sheet: &[u8], times: &mut [u8]) -> u32
     ensures { λ r. ⌜ Signed (policy-of (now (sheet .entry))) (tasks-of (now (sheet .entry))) in-bytes (now (times .entry)) (now (times .exit)) (said-by r) ⌝ }
 {
     workbench::burrbeech_check_sheet(sheet, times)
+}
+
+fn analyse_sheet_from_c(sheet: &[u8], times: &mut [u32]) -> u64
+    ensures { λ r. ⌜ Signed (policy-of (now (sheet .entry))) (tasks-of (now (sheet .entry))) in-numbers (now (times .entry)) (now (times .exit)) (said (decision-by r .outcome)) ⌝ }
+{
+    workbench::burrbeech_analyse_sheet(sheet, times)
+}
+
+fn report_from_c(sheet: &[u8], text: &mut [u8]) -> u64
+    ensures { λ r. ⌜ ReportLeft (policy-of (now (sheet .entry))) (tasks-of (now (sheet .entry))) (now (text .entry)) (now (text .exit)) (written-by r) ⌝ }
+{
+    workbench::burrbeech_report(sheet, text)
 }
 
 fn report_text(sheet: &[u8]) -> Text
