@@ -1,31 +1,16 @@
--- `main` meets its contract: what is written out lies within the text's room.
+-- `main` meets its contract: what is reported on lies within the sheet's room.
 use borrow.Author.Needs.{needs}
 use mathlib.Core.Path.{sym}
 use lib.Seq.{length-take-le}
-use Rattle.report_text.proofs.Whole.{text-within}
+use Rattle.report.proofs.Reading.{bytes-within}
 use Rattle.report.proofs.main.Statement.{statement}
 use Rattle.report.proofs.main.Tie as tie
 
-slice-aggregate-read-full : tie.Need-slice-aggregate-read-full
-slice-aggregate-read-full c = search needs
-
-read-full-requires : tie.Need-read-full-requires
-read-full-requires c κs = search needs
-
-array-share-prefix-sheet : tie.Need-array-share-prefix-sheet
-array-share-prefix-sheet c = search needs
-
-slice-aggregate-report-text : tie.Need-slice-aggregate-report-text
-slice-aggregate-report-text c = search needs
-
-report-text-requires : tie.Need-report-text-requires
-report-text-requires c κs = search needs
-
-array-share-prefix-bytes : tie.Need-array-share-prefix-bytes
-array-share-prefix-bytes c = text-within _ _ (c .before .report-text .ensures)
+arg-count-requires : tie.Need-arg-count-requires
+arg-count-requires c κs = search needs
 
 slice-aggregate-write-all : tie.Need-slice-aggregate-write-all
-slice-aggregate-write-all c = sym (length-take-le _ _ (text-within _ _ (c .before .before .report-text .ensures)))
+slice-aggregate-write-all c = search needs
 
 write-all-requires : tie.Need-write-all-requires
 write-all-requires c κs = search needs
@@ -33,16 +18,56 @@ write-all-requires c κs = search needs
 returns : tie.Need-returns
 returns c = search needs
 
+slice-aggregate-read-sheet : tie.Need-slice-aggregate-read-sheet
+slice-aggregate-read-sheet c = search needs
+
+read-sheet-requires : tie.Need-read-sheet-requires
+read-sheet-requires c κs = search needs
+
+enum-known-n : tie.Need-enum-known-n
+enum-known-n c = search needs
+
+array-share-prefix-sheet : tie.Need-array-share-prefix-sheet
+array-share-prefix-sheet c = bytes-within _ _ _ (c .before .before .before .before .read-sheet .ensures) (c .before .n .given .1)
+
+slice-aggregate-print-report : tie.Need-slice-aggregate-print-report
+slice-aggregate-print-report c =
+    sym (length-take-le _ _ (bytes-within _ _ _ (c .before .before .before .before .before .read-sheet .ensures) (c .before .before .n .given .1)))
+
+print-report-requires : tie.Need-print-report-requires
+print-report-requires c κs = search needs
+
+enum-told : tie.Need-enum-told
+enum-told c = search needs
+
+slice-aggregate-fail : tie.Need-slice-aggregate-fail
+slice-aggregate-fail c = search needs
+
+fail-requires : tie.Need-fail-requires
+fail-requires c κs = search needs
+
+returns-2 : tie.Need-returns-2
+returns-2 c = search needs
+
+returns-3 : tie.Need-returns-3
+returns-3 c = search needs
+
 pub main-spec : {M : Type 1} → statement M
 main-spec =
     tie.close
     (tie.spec
-    slice-aggregate-read-full
-    read-full-requires
-    array-share-prefix-sheet
-    slice-aggregate-report-text
-    report-text-requires
-    array-share-prefix-bytes
+    arg-count-requires
     slice-aggregate-write-all
     write-all-requires
-    returns)
+    returns
+    slice-aggregate-read-sheet
+    read-sheet-requires
+    enum-known-n
+    array-share-prefix-sheet
+    slice-aggregate-print-report
+    print-report-requires
+    enum-told
+    slice-aggregate-fail
+    fail-requires
+    returns-2
+    returns-3)
