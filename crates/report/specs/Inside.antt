@@ -1,1 +1,2 @@
+-- Definitions that only private contracts use.
 pub mod Input

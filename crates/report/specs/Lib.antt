@@ -1,2 +1,2 @@
--- The program has private contracts only. Inside: their words.
+-- A program has private contracts only. Inside: their words.
 pub mod Inside
