@@ -1,5 +1,5 @@
 // Prints the report on the sheet that stands on standard input. It only moves bytes.
-// A failed read or write and a call with arguments get a line on standard error. None of them gets a verdict.
+// A failed read, or a call with arguments, gets a line on standard error and no verdict. A failed write gets a line there too.
 ghost use Prim.Native.Nat.{_-_, _≤_};
 ghost use lib.ListN.{length};
 ghost use Rattle.report.specs.Inside.Input.{Within};
