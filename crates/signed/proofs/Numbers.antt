@@ -152,7 +152,7 @@ analysed-back m n h l =
     let low : (m + 65536 * n) % 65536 ≡ m = omega arith in
     let above : (m + 65536 * n) / 65536 ≡ n = omega arith in
     let high : (m + 65536 * n) / 65536 % 256 ≡ n = ap (λ (x : ℕ). x % 256) above ∙ mod-eq-of-lt l in
-    rw (low, high)
+    ap₂ (λ (x y : ℕ). record { outcome = verdict-by x; «task_count» = y }) low high
 
 -- a decision whose parts have room in their bits
 unfoldable pub InBits : Outcome → ℕ → Type 0
