@@ -139,7 +139,7 @@ module _ (E : RattleType) (ε : Ty) (R : Value) where
           suffices ! _ (ends-at 𝓤 H A taken stayed (taken-clauses 𝓤) W bound (R .val w) w (tt, (tt, (zs, tt))) (tt, (tt, (l, tt)))) $
           says ! (said-is policy (x .now) (y .now), e ∙ left-is policy (x .now) (y .now)) $
           split ! $ move ! (0 ∷ 2 ∷ []) $ join ! $ frame ! $ move ! (1 ∷ 0 ∷ []) $ fjoin ! $ nothing ! $ fjoin ! $ nothing ! $ fjoin ! $ frame ! $
-          owned ! (R .row) (Is (R .row)) (R .makes 𝓤 H A) w _ is $ done !
+          owned ! (R .row) (Is (R .row)) (R .makes 𝓤 H A W) w _ is $ done !
 
       walk : (#gathered #on-set : Name) (𝓣 : Tables 𝓤 H) → Triple 𝓤 (𝓣 .C #gathered) (tripleOf 𝓤 H A (gathers .signature) (closing 𝓤 H A gathers (gathers-clauses 𝓤))) → Triple 𝓤 (𝓣 .C #on-set) (tripleOf 𝓤 H A (handed .signature) (closing 𝓤 H A handed (handed-clauses 𝓤)))
           → ent 𝓤 (onEntry 𝓤 H A (taken .signature) (κ, (κ′, tt)) (q, (q′, tt)) a vals) (WpFn 𝓤 H (𝓣 .C) (𝓣 .Λ) (function #gathered #on-set) (vint w32 policy ∷ s ∷ s′ ∷ []) Post)

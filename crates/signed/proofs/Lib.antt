@@ -9,3 +9,4 @@ pub mod Damage
 pub mod Words
 pub mod Report
 pub mod Signed
+pub mod Forwarded

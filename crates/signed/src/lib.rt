@@ -1,16 +1,20 @@
-// What we sign for, of the functions themselves: each calls one entry, and its contract is the theorem. They are proved and never called.
+// What we sign for, of the functions themselves: each calls one entry, and its contract is the theorem, or for a lent list of records that the
+// call is one of which the theorems speak. They are proved and never called.
 ghost use mathlib.Core.List.{map};
 ghost use lib.ListN.{take};
 ghost use Rattle.sheet.specs.Tasks.{task-in};
 ghost use Rattle.sheet.specs.Reading.{policy-of, tasks-of};
+ghost use Rattle.signed.specs.Calls.{ReadList, ReadListC, WriteList, WriteListC, AnalyseList, AnalyseListC};
 ghost use Rattle.signed.specs.Claims.{said, in-numbers, in-bytes, Signed};
 ghost use Rattle.signed.specs.Numbers.{said-by, written-by, decision-by};
 ghost use Rattle.signed.specs.Reports.{words-in, said-in, text-in, ReportSigned, ReportLeft};
 use analysis::Decision;
+use lists::ListRead;
 use report_text::Text;
 use sheet::Sheet;
 use sheet::Task;
 use sheet::TaskSet;
+use sheet::Written;
 
 fn analyse_set(
     policy: u32,
@@ -46,6 +50,12 @@ fn analyse_sheet_from_c(sheet: &[u8], times: &mut [u32]) -> u64
     workbench::burrbeech_analyse_sheet(sheet, times)
 }
 
+fn write_report(sheet: &[u8], text: &mut [u8]) -> Written
+    ensures { λ r. ⌜ ReportLeft (policy-of (now (sheet .entry))) (tasks-of (now (sheet .entry))) (now (text .entry)) (now (text .exit)) r ⌝ }
+{
+    report_text::write_report(sheet, text)
+}
+
 fn report_from_c(sheet: &[u8], text: &mut [u8]) -> u64
     ensures { λ r. ⌜ ReportLeft (policy-of (now (sheet .entry))) (tasks-of (now (sheet .entry))) (now (text .entry)) (now (text .exit)) (written-by r) ⌝ }
 {
@@ -56,4 +66,40 @@ fn report_text(sheet: &[u8]) -> Text
     ensures { λ r. ⌜ ReportSigned (policy-of (now (sheet .entry))) (tasks-of (now (sheet .entry))) (text-in r) (said-in (words-in (text-in r))) ⌝ }
 {
     report_text::report_text(sheet)
+}
+
+fn read_list(sheet: &[u8], list: &mut [Task]) -> ListRead
+    ensures { λ r. ⌜ ReadList (now (sheet .entry)) (now (list .entry)) r (now (list .exit)) ⌝ }
+{
+    lists::read_list(sheet, list)
+}
+
+fn read_list_from_c(sheet: &[u8], list: &mut [Task]) -> u64
+    ensures { λ r. ⌜ ReadListC (now (sheet .entry)) (now (list .entry)) r (now (list .exit)) ⌝ }
+{
+    workbench::burrbeech_read_list(sheet, list)
+}
+
+fn write_list(policy: u32, list: &[Task], sheet: &mut [u8]) -> Written
+    ensures { λ r. ⌜ WriteList policy (now (list .entry)) (now (sheet .entry)) r (now (sheet .exit)) ⌝ }
+{
+    lists::write_list(policy, list, sheet)
+}
+
+fn write_list_from_c(policy: u32, list: &[Task], sheet: &mut [u8]) -> u64
+    ensures { λ r. ⌜ WriteListC policy (now (list .entry)) (now (sheet .entry)) r (now (sheet .exit)) ⌝ }
+{
+    workbench::burrbeech_write_list(policy, list, sheet)
+}
+
+fn analyse_list(policy: u32, list: &[Task], times: &mut [u32]) -> Decision
+    ensures { λ r. ⌜ AnalyseList policy (now (list .entry)) (now (times .entry)) r (now (times .exit)) ⌝ }
+{
+    lists::analyse_list(policy, list, times)
+}
+
+fn analyse_list_from_c(policy: u32, list: &[Task], times: &mut [u32]) -> u64
+    ensures { λ r. ⌜ AnalyseListC policy (now (list .entry)) (now (times .entry)) r (now (times .exit)) ⌝ }
+{
+    workbench::burrbeech_analyse_list(policy, list, times)
 }

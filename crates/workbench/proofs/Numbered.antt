@@ -134,7 +134,7 @@ module _ (E : RattleType) (ε : Ty) (R : Value) where
           (λ z ws. (z ≡ w) × (ws .1 .1 .0 ≡ left policy (x .now) (y .now))) (λ z ws. id⊢ 𝓤 _) w (λ z ws e. e .0) (R .val) (R .tells)
           (and-then ! (load ! (from ! (stop !)) (look ! 11 refl)) (and-then ! (load ! (from ! (stop !)) (look ! 9 refl)) (and-then ! (load ! (from ! (stop !)) (look ! 1 refl)) (no-more !)))) (λ ws e is.
           land ! (from ! (stop !)) (init ! 6 refl (R .typed 𝓤 H A W w is)) $
-          calls-value ! (fmOf 𝓤 H (W .laws) 𝓣) numbers (numbers-clauses 𝓤) known-number (tt, tt, tt, (w, tt), (R .val w ∷ [], tt)) tt (factI 𝓤 (code w < 2 ^ 64) (emp 𝓤) fits) (id⊢ 𝓤 _) (R .makes 𝓤 H A, tt) (is, tt)
+          calls-value ! (fmOf 𝓤 H (W .laws) 𝓣) numbers (numbers-clauses 𝓤) known-number (tt, tt, tt, (w, tt), (R .val w ∷ [], tt)) tt (factI 𝓤 (code w < 2 ^ 64) (emp 𝓤) fits) (id⊢ 𝓤 _) (R .makes 𝓤 H A W, tt) (is, tt)
           (λ z. z ≡ code w) (λ z ws. id⊢ 𝓤 _) (code w) (λ z e. e) (vint w64) (uint-tells w64) (and-then ! (load ! (from ! (stop !)) (look ! 7 refl)) (no-more !)) (λ _.
           land ! (from ! (stop !)) (init ! 14 refl (tt, record { fits = fits })) $
           -- [the tokens; the last values; _6; …]
