@@ -1,0 +1,66 @@
+//! `compose`: a sheet from a table, by the library's writer.
+use crate::faults;
+use crate::input;
+use crate::library::{self, Refusal};
+use crate::names::Name;
+use crate::output::{complain, Output};
+use crate::set::MOST_TASKS;
+use crate::status::{Status, Trouble};
+use crate::table::{self, Table};
+use crate::{whole_file, words};
+use std::os::unix::fs::MetadataExt;
+use std::path::Path;
+
+/// No table of sixteen tasks comes near this many bytes.
+const MOST_BYTES: usize = 1 << 20;
+
+pub fn run(name: &Name, to: Option<&Name>, output: &mut Output) -> Result<Status, Trouble> {
+    let text = input::at_most(MOST_BYTES + 1, name)?;
+    if text.len() > MOST_BYTES {
+        return Err(Trouble::File(name.clone(), format!("more than {MOST_BYTES} bytes: this is no task table")));
+    }
+    let table = table::parse(&text).map_err(|bad| Trouble::Line(name.clone(), bad.line, bad.words))?;
+    match library::write(table.policy, &table.tasks)? {
+        Ok(sheet) => deliver(&sheet, name, to, output).map(|()| Status::Done),
+        Err(refusal) => {
+            complain(&refused(name, &table, refusal)?);
+            Ok(Status::Refused)
+        }
+    }
+}
+
+/// The refusal at the line of the table that it is about.
+fn refused(name: &Name, table: &Table, refusal: Refusal) -> Result<Trouble, Trouble> {
+    let fault = faults::of_list(refusal, table.policy, &table.tasks)?;
+    let line = match (refusal.number, refusal.task) {
+        (_, Some(task)) => table.task_lines.get(task),
+        (4, _) => Some(&table.policy_line),
+        // the first task too many, or none at all
+        _ => table.task_lines.get(MOST_TASKS),
+    };
+    let line = line.copied().unwrap_or(table.columns_line);
+    let advice = if fault.advice.is_empty() { String::new() } else { format!(". {}", fault.advice) };
+    Ok(Trouble::Line(name.clone(), line, format!("{}: {}{advice}", words::refused(refusal), fault.words)))
+}
+
+fn deliver(sheet: &[u8], table: &Name, to: Option<&Name>, output: &mut Output) -> Result<(), Trouble> {
+    let Some(Name::File(path)) = to else {
+        if output.is_terminal() {
+            return Err(Trouble::File(Name::StandardOutput, "a sheet is no text: give `-o FILE` or send the output to a file".to_string()));
+        }
+        return output.put(sheet);
+    };
+    let (name, path) = (Name::File(path.clone()), Path::new(path));
+    if is_same_file(table, path) {
+        return Err(Trouble::File(name, "this is the table itself: it would be lost".to_string()));
+    }
+    whole_file::write(path, sheet).map_err(|error| Trouble::of_file(&name, &error))
+}
+
+fn is_same_file(table: &Name, path: &Path) -> bool {
+    let Name::File(table) = table else { return false };
+    match (std::fs::metadata(table), std::fs::metadata(path)) {
+        (Ok(one), Ok(other)) => one.is_file() && (one.dev(), one.ino()) == (other.dev(), other.ino()),
+        _ => false,
+    }
+}

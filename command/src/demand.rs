@@ -1,0 +1,84 @@
+//! The demand of a frame term by term, for words about it, and its agreement with the library's answers.
+use crate::findings::{Finding, Findings};
+use crate::set::Task;
+use crate::status::Trouble;
+
+/// The jobs of a higher task that a demand counts.
+#[derive(Clone, Debug)]
+pub struct Jobs {
+    pub task: usize,
+    pub period: u32,
+    pub count: u32,
+    pub start_frame: usize,
+    /// How many whole rounds of all frames the jobs make, and the work of one.
+    pub rounds: u64,
+    pub round: u64,
+    /// The frames after the last whole round.
+    pub rest: Vec<u32>,
+    pub work: u64,
+}
+
+/// The demand of one frame at one time.
+#[derive(Clone, Debug)]
+pub struct Demand {
+    pub task: usize,
+    pub frame: usize,
+    pub at: u32,
+    pub blocking: u32,
+    pub own: u32,
+    pub higher: Vec<Jobs>,
+    pub total: u64,
+}
+
+fn sum_from(frames: &[u32], from: usize, length: usize) -> u64 {
+    frames.iter().cycle().skip(from).take(length).map(|&frame| u64::from(frame)).sum()
+}
+
+/// The lowest-numbered frame whose sums are, at each length, at least those from any other frame.
+pub fn start_frame(frames: &[u32]) -> Option<usize> {
+    let all = 0..frames.len();
+    let beats = |start: usize, other: usize| (1..=frames.len()).all(|n| sum_from(frames, start, n) >= sum_from(frames, other, n));
+    all.clone().find(|&start| all.clone().all(|other| beats(start, other)))
+}
+
+/// The work of so many jobs as ⌈t/T⌉ says, from the start frame on.
+fn jobs(number: usize, task: &Task, t: u32) -> Option<Jobs> {
+    let (start_frame, count) = (start_frame(&task.frames)?, t.div_ceil(task.period));
+    let frames = task.frames.len();
+    let (rounds, left) = (u64::from(count) / frames as u64, count as usize % frames);
+    let round = sum_from(&task.frames, 0, frames);
+    let rest: Vec<u32> = task.frames.iter().cycle().skip(start_frame).take(left).copied().collect();
+    let work = rounds * round + rest.iter().map(|&frame| u64::from(frame)).sum::<u64>();
+    Some(Jobs { task: number, period: task.period, count, start_frame, rounds, round, rest, work })
+}
+
+/// The demand at t of a frame of the task at this place of the priority order.
+pub fn of(findings: &Findings, place: usize, frame: usize, at: u32) -> Option<Demand> {
+    let Finding { task, blocking, .. } = findings.ordered[place];
+    let own = *findings.set.tasks[task].frames.get(frame)?;
+    let above = findings.ordered[..place].iter();
+    let higher = above.map(|finding| jobs(finding.task, &findings.set.tasks[finding.task], at)).collect::<Option<Vec<Jobs>>>()?;
+    let total = u64::from(blocking) + u64::from(own) + higher.iter().map(|jobs| jobs.work).sum::<u64>();
+    Some(Demand { task, frame, at, blocking, own, higher, total })
+}
+
+/// The demand at the deadline of a task's lowest-numbered largest frame.
+pub fn at_deadline(findings: &Findings, place: usize) -> Option<Demand> {
+    let task = &findings.set.tasks[findings.ordered[place].task];
+    of(findings, place, task.largest_frame()?.0, task.deadline)
+}
+
+/// At each response time the demand is that time, and of a task that does not pass it exceeds the deadline.
+pub fn agrees(findings: &Findings) -> Result<(), Trouble> {
+    let place_agrees = |place: usize| match &findings.ordered[place].times {
+        Some(times) => times.iter().enumerate().all(|(frame, &t)| of(findings, place, frame, t).is_some_and(|d| d.total == u64::from(t))),
+        None => at_deadline(findings, place).is_some_and(|d| d.total > u64::from(d.at)),
+    };
+    match (0..findings.ordered.len()).find(|&place| !place_agrees(place)) {
+        None => Ok(()),
+        Some(place) => {
+            let task = findings.ordered[place].task;
+            Err(Trouble::Disagreement(format!("the demand worked out for task {task} does not agree with its times")))
+        }
+    }
+}

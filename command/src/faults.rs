@@ -1,0 +1,210 @@
+//! What is wrong with a refused sheet or list, in words: one function for each refusal. Each answers nothing where it sees no fault, and
+//! the command then says that it disagrees with the library instead of making up a reason.
+use crate::library::Refusal;
+use crate::set::{Task, GREATEST_SHEET, LEAST_SHEET, MOST_FRAMES, MOST_TASKS, MOST_TICKS};
+use crate::sheet_bits::{self, End, SheetBits, VERSION};
+use crate::status::Trouble;
+use crate::words::{counted, joined};
+
+/// Where the fault stands.
+#[derive(Clone, Copy, Debug, PartialEq, Eq)]
+pub enum Place {
+    Length,
+    CheckWord,
+    Version,
+    Policy,
+    Spare,
+    TaskCount,
+    Task(usize),
+    End,
+}
+
+#[derive(Clone, Debug)]
+pub struct Fault {
+    pub place: Place,
+    /// Field, value and limit.
+    pub words: String,
+    /// What to do about it, where that helps.
+    pub advice: &'static str,
+}
+
+fn fault(place: Place, words: String, advice: &'static str) -> Option<Fault> {
+    Some(Fault { place, words, advice })
+}
+
+/// The fault of a refused sheet.
+pub fn of_sheet(refusal: Refusal, sheet: &[u8]) -> Result<Fault, Trouble> {
+    let bits = sheet_bits::read(sheet);
+    let found = match (refusal.number, &bits) {
+        (1, _) => length(sheet),
+        (2, Some(bits)) => check_word(bits, sheet),
+        (3, Some(bits)) => version(bits.version),
+        (4, Some(bits)) => policy(bits.policy),
+        (5, Some(bits)) => spare(bits).or_else(|| fill(bits)),
+        (6, Some(bits)) => task_count(bits.task_count as usize),
+        (8, Some(bits)) => records(bits),
+        (_, Some(bits)) => refusal.task.and_then(|task| of_record(refusal.number, task, bits)),
+        (_, None) => None,
+    };
+    found.ok_or_else(|| unseen(refusal))
+}
+
+fn of_record(number: u32, task: usize, bits: &SheetBits) -> Option<Fault> {
+    let record = bits.records.get(task)?;
+    match number {
+        7 => frame_count(task, record.frame_count as usize),
+        _ => of_task(number, task, &record.task),
+    }
+}
+
+/// The fault of a refused list.
+pub fn of_list(refusal: Refusal, policy_number: u32, tasks: &[Task]) -> Result<Fault, Trouble> {
+    let named = refusal.task.and_then(|task| Some((task, tasks.get(task)?)));
+    let found = match (refusal.number, named) {
+        (4, _) => policy(policy_number),
+        (6, _) => task_count(tasks.len()),
+        (7, Some((number, task))) => frame_count(number, task.frames.len()),
+        (refused, Some((number, task))) => of_task(refused, number, task),
+        (_, None) => None,
+    };
+    found.ok_or_else(|| unseen(refusal))
+}
+
+fn of_task(refusal: u32, number: usize, task: &Task) -> Option<Fault> {
+    match refusal {
+        9 => form(number, task),
+        10 => lock(number, task),
+        11 => monotony(number, task),
+        _ => None,
+    }
+}
+
+fn unseen(refusal: Refusal) -> Trouble {
+    Trouble::Disagreement(format!("the library refuses by number {}, and the command sees no such fault", refusal.number))
+}
+
+const TEXT_ADVICE: &str = "This is text, not a sheet: `burrbeech compose` makes a sheet from a task table.";
+
+fn is_text(bytes: &[u8]) -> bool {
+    !bytes.is_empty() && bytes.iter().all(|byte| byte.is_ascii_graphic() || byte.is_ascii_whitespace())
+}
+
+/// 1.
+fn length(sheet: &[u8]) -> Option<Fault> {
+    let length = match sheet.len() {
+        LEAST_SHEET..=GREATEST_SHEET => return None,
+        0 => "the input is empty, 0 bytes".to_string(),
+        short @ 1..LEAST_SHEET => format!("length {}", counted(short as u64, "byte")),
+        _ => format!("length {} bytes or more", GREATEST_SHEET + 1),
+    };
+    let advice = if is_text(sheet) { TEXT_ADVICE } else { "Look whether this is the right file, and whole." };
+    fault(Place::Length, format!("{length}: a sheet has {LEAST_SHEET} to {GREATEST_SHEET}"), advice)
+}
+
+/// 2.
+fn check_word(bits: &SheetBits, sheet: &[u8]) -> Option<Fault> {
+    let (stated, computed) = (bits.stated_word, bits.computed_word);
+    if stated == computed {
+        return None;
+    }
+    let advice = if is_text(sheet) {
+        TEXT_ADVICE
+    } else {
+        "The bytes were changed, cut or added to after the sheet was sealed: get the sheet again from where it was made."
+    };
+    fault(Place::CheckWord, format!("the check word is {stated:04X}, the bytes before it give {computed:04X}"), advice)
+}
+
+/// 3.
+fn version(version: u32) -> Option<Fault> {
+    let words = format!("version {version}: only version {VERSION} is known");
+    (version != VERSION).then(|| fault(Place::Version, words, "Look whether this is a task sheet."))?
+}
+
+/// 4.
+fn policy(policy: u32) -> Option<Fault> {
+    let words = format!("policy {policy}: 0 (listed), 1 (rate-monotonic) and 2 (deadline-monotonic) are allowed");
+    (policy > 2).then(|| fault(Place::Policy, words, ""))?
+}
+
+/// 5 in the header.
+fn spare(bits: &SheetBits) -> Option<Fault> {
+    let words = format!("spare bits {}, bits 11 to 15 of the header: they must be 0", bits.spare);
+    bits.spare.contains('1').then(|| fault(Place::Spare, words, "Write zeros there and seal the sheet anew."))?
+}
+
+/// 5 after the records.
+fn fill(bits: &SheetBits) -> Option<Fault> {
+    let End::Left(fill) = &bits.end else { return None };
+    let words = format!("fill bits {fill} after the last record: they must be 0");
+    fill.contains('1').then(|| fault(Place::End, words, "Write zeros there and seal the sheet anew."))?
+}
+
+/// 6.
+fn task_count(count: usize) -> Option<Fault> {
+    let words = format!("task count {count}: 1 to {MOST_TASKS} are allowed");
+    (count == 0 || count > MOST_TASKS).then(|| fault(Place::TaskCount, words, ""))?
+}
+
+/// 7.
+fn frame_count(task: usize, count: usize) -> Option<Fault> {
+    let words = format!("frame count {count}: 1 to {MOST_FRAMES} are allowed");
+    (count == 0 || count > MOST_FRAMES).then(|| fault(Place::Task(task), words, ""))?
+}
+
+/// 8.
+fn records(bits: &SheetBits) -> Option<Fault> {
+    let next = bits.records.len();
+    let (place, words) = match &bits.end {
+        End::FixedCut(there) => {
+            let words = format!("task {next}: the record runs past the check word: its fixed part needs 64 bits, {there} are there");
+            (Place::End, words)
+        }
+        End::FramesCut(there) => {
+            let last = bits.records.last()?;
+            let (frames, need) = (counted(last.frame_count.into(), "frame"), last.frame_bits());
+            let words = format!("task {}: its {frames} run past the check word: they need {need} bits, {there} are there", next - 1);
+            (Place::Task(next - 1), words)
+        }
+        End::Left(left) if left.len() >= 8 => {
+            (Place::End, format!("{} bits are left after the last record: fewer than 8 are allowed", left.len()))
+        }
+        _ => return None,
+    };
+    fault(place, words, "Look at the task count, the frame counts and the sheet's length: they must agree.")
+}
+
+/// 9, with every reason.
+fn form(number: usize, task: &Task) -> Option<Fault> {
+    let out_of_range = |field: String, value: u32, least: u32| {
+        let fits = (least..=MOST_TICKS).contains(&value);
+        (!fits).then(|| format!("{field} {value}: {least} to {MOST_TICKS} are allowed"))
+    };
+    let frames = || task.frames.iter().enumerate();
+    let mut reasons: Vec<String> = Vec::new();
+    reasons.extend(out_of_range("period".to_string(), task.period, 1));
+    reasons.extend(out_of_range("deadline".to_string(), task.deadline, 1));
+    reasons.extend(out_of_range("lock".to_string(), task.lock, 0));
+    reasons.extend(frames().filter_map(|(frame, &time)| out_of_range(format!("frame {frame} with work"), time, 1)));
+    if task.deadline > task.period {
+        reasons.push(format!("deadline {} is above the period {}", task.deadline, task.period));
+    }
+    let above = frames().filter(|&(_, &time)| time > task.deadline);
+    reasons.extend(above.map(|(frame, time)| format!("frame {frame} with work {time} is above the deadline {}", task.deadline)));
+    (!reasons.is_empty()).then(|| fault(Place::Task(number), reasons.join("; "), ""))?
+}
+
+/// 10.
+fn lock(number: usize, task: &Task) -> Option<Fault> {
+    let (frame, largest) = task.largest_frame()?;
+    let words = format!("lock {} is above the largest frame, frame {frame} with work {largest}", task.lock);
+    (task.lock > largest).then(|| fault(Place::Task(number), words, "A job cannot lock for longer than it works."))?
+}
+
+/// 11.
+fn monotony(number: usize, task: &Task) -> Option<Fault> {
+    let words = format!("frames {} are not accumulatively monotonic: no frame can be the start frame", joined(&task.frames, " "));
+    let rule = "For each length from 1 to the number of frames, that many frames from the start frame on, going round, must add up to at least as \
+                much as the same number of frames from any other frame. Frames that fall from the largest on always do.";
+    crate::demand::start_frame(&task.frames).is_none().then(|| fault(Place::Task(number), words, rule))?
+}

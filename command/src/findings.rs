@@ -1,0 +1,104 @@
+//! What the library says of an admitted sheet: the set, the verdict, and each task's blocking and times in priority order. Order and
+//! blocking are taken from the report; what two entries say must agree.
+use crate::demand;
+use crate::library::{self, Analysis, Answer, Verdict};
+use crate::set::Set;
+use crate::status::Trouble;
+
+/// What is found of one task.
+#[derive(Clone, Debug)]
+pub struct Finding {
+    pub task: usize,
+    pub blocking: u32,
+    /// The lower task with the largest lock, the first in priority order, if there is blocking.
+    pub blocker: Option<usize>,
+    /// A response time for each frame, or none of them if the task does not pass.
+    pub times: Option<Vec<u32>>,
+}
+
+#[derive(Clone, Debug)]
+pub struct Findings {
+    pub set: Set,
+    pub verdict: Verdict,
+    /// Highest priority first.
+    pub ordered: Vec<Finding>,
+}
+
+/// The findings of a sheet, or its refusal.
+pub fn of(sheet: &[u8]) -> Answer<Findings> {
+    let report = library::report(sheet)?;
+    let (set, analysis) = match (library::read(sheet)?, library::analyse(sheet)?) {
+        (Ok(set), Ok(analysis)) => (set, analysis),
+        (Err(one), Err(other)) if one == other => return Ok(Err(one)),
+        _ => return Err(disagreement("reading and analysing")),
+    };
+    let verdict = analysis.verdict;
+    let ordered = parsed(&report, &set, &analysis).ok_or_else(|| disagreement("the report and the analysis"))?;
+    let mut findings = Findings { set, verdict, ordered };
+    name_blockers(&mut findings)?;
+    demand::agrees(&findings)?;
+    Ok(Ok(findings))
+}
+
+fn disagreement(who: &str) -> Trouble {
+    Trouble::Disagreement(format!("{who} do not say the same of this sheet"))
+}
+
+/// The first line of the report for this verdict.
+pub fn first_line(verdict: Verdict, task_count: usize) -> String {
+    match verdict {
+        Verdict::Holds => format!("holds {task_count}"),
+        Verdict::Missed { task, blocker: Some(blocker) } => format!("missed {task_count} {task} {blocker}"),
+        Verdict::Missed { task, blocker: None } => format!("missed {task_count} {task} -"),
+    }
+}
+
+/// The report's lines, where they agree with the set and the analysis.
+fn parsed(report: &[u8], set: &Set, analysis: &Analysis) -> Option<Vec<Finding>> {
+    let mut lines = std::str::from_utf8(report).ok()?.lines();
+    let count = set.tasks.len();
+    if count != analysis.task_count || lines.next()? != first_line(analysis.verdict, count) {
+        return None;
+    }
+    let ordered = lines.map(|line| finding(line, set, analysis)).collect::<Option<Vec<Finding>>>()?;
+    let mut numbers: Vec<usize> = ordered.iter().map(|finding| finding.task).collect();
+    numbers.sort_unstable();
+    numbers.into_iter().eq(0..count).then_some(ordered)
+}
+
+/// Number, period, deadline, blocking, then the times or the word `missed`.
+fn finding(line: &str, set: &Set, analysis: &Analysis) -> Option<Finding> {
+    let words: Vec<&str> = line.split(' ').collect();
+    let [number, period, deadline, blocking, times @ ..] = words.as_slice() else { return None };
+    let number: usize = number.parse().ok()?;
+    let (task, slots) = (set.tasks.get(number)?, analysis.times.get(number)?);
+    let times = match times {
+        ["missed"] => None,
+        times => Some(times.iter().map(|time| time.parse().ok()).collect::<Option<Vec<u32>>>()?),
+    };
+    let frames = times.as_ref().map_or(0, Vec::len);
+    let same_times = times.iter().flatten().copied().chain(std::iter::repeat(0)).take(slots.len()).eq(slots.iter().copied());
+    let same_task = period.parse() == Ok(task.period) && deadline.parse() == Ok(task.deadline);
+    let whole = times.is_none() || frames == task.frames.len();
+    let finding = Finding { task: number, blocking: blocking.parse().ok()?, blocker: None, times };
+    (same_times && same_task && whole).then_some(finding)
+}
+
+/// Names who causes each blocking; it must be the library's number, and of the missed task the library's blocker.
+fn name_blockers(findings: &mut Findings) -> Result<(), Trouble> {
+    for place in 0..findings.ordered.len() {
+        let lower: Vec<(usize, u32)> = findings.ordered[place + 1..].iter().map(|f| (f.task, findings.set.tasks[f.task].lock)).collect();
+        let largest = lower.iter().map(|&(_, lock)| lock).max().unwrap_or(0);
+        let blocker = lower.iter().find(|&&(_, lock)| lock == largest && lock >= 2).map(|&(task, _)| task);
+        let finding = &mut findings.ordered[place];
+        let named = match findings.verdict {
+            Verdict::Missed { task, blocker } if task == finding.task => Some(blocker),
+            _ => None,
+        };
+        if finding.blocking != largest.saturating_sub(1) || named.is_some_and(|named| named != blocker) {
+            return Err(Trouble::Disagreement(format!("the blocking worked out for task {} is not the library's", finding.task)));
+        }
+        finding.blocker = blocker;
+    }
+    Ok(())
+}

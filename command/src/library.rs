@@ -1,0 +1,168 @@
+//! The proved library's entries: safe wrappers that lend the room each needs and decode the numbers.
+#![allow(unsafe_code)]
+use crate::set::{Set, Task, GREATEST_SHEET, MOST_FRAMES, MOST_TASKS};
+use crate::status::Trouble;
+
+/// `struct burrbeech_task`.
+#[repr(C)]
+#[derive(Clone, Copy, Debug, Default)]
+struct Record {
+    period: u32,
+    deadline: u32,
+    lock: u32,
+    frame_count: u32,
+    frames: [u32; MOST_FRAMES],
+}
+
+extern "C" {
+    fn burrbeech_read_list(sheet: *const u8, sheet_len: usize, list: *mut Record, list_len: usize) -> u64;
+    fn burrbeech_write_list(policy: u32, list: *const Record, list_len: usize, sheet: *mut u8, sheet_len: usize) -> u64;
+    fn burrbeech_analyse_sheet(sheet: *const u8, sheet_len: usize, times: *mut u32, times_len: usize) -> u64;
+    fn burrbeech_report(sheet: *const u8, sheet_len: usize, text: *mut u8, text_len: usize) -> u64;
+}
+
+/// The longest report.
+const REPORT_ROOM: usize = 2_048;
+
+/// In an outcome, the blocker's place of a miss without one.
+const NO_BLOCKER: usize = 16;
+
+#[derive(Clone, Copy, Debug, PartialEq, Eq)]
+pub struct Refusal {
+    pub number: u32,
+    /// The task that 7, 9, 10 and 11 name.
+    pub task: Option<usize>,
+}
+
+#[derive(Clone, Copy, Debug, PartialEq, Eq)]
+pub enum Verdict {
+    Holds,
+    Missed { task: usize, blocker: Option<usize> },
+}
+
+#[derive(Clone, Debug)]
+pub struct Analysis {
+    pub task_count: usize,
+    pub verdict: Verdict,
+    /// Eight slots for each task, in task-number order.
+    pub times: Vec<[u32; MOST_FRAMES]>,
+}
+
+/// What an entry answers: a refusal is an answer, a number that decodes to none is trouble.
+pub type Answer<T> = Result<Result<T, Refusal>, Trouble>;
+
+impl From<&Task> for Record {
+    /// The count says how many frames there are, even if the record has no room for all of them.
+    fn from(task: &Task) -> Self {
+        let mut frames = [0; MOST_FRAMES];
+        frames.iter_mut().zip(&task.frames).for_each(|(slot, &frame)| *slot = frame);
+        let frame_count = u32::try_from(task.frames.len()).unwrap_or(u32::MAX);
+        Record { period: task.period, deadline: task.deadline, lock: task.lock, frame_count, frames }
+    }
+}
+
+impl Record {
+    fn task(&self) -> Option<Task> {
+        let frames = self.frames.get(..self.frame_count as usize)?.to_vec();
+        Some(Task { period: self.period, deadline: self.deadline, lock: self.lock, frames })
+    }
+}
+
+/// The set in a sheet.
+pub fn read(sheet: &[u8]) -> Answer<Set> {
+    let mut list = [Record::default(); MOST_TASKS];
+    // SAFETY: pointers and lengths are those of live slices that do not overlap
+    let answer = unsafe { burrbeech_read_list(sheet.as_ptr(), sheet.len(), list.as_mut_ptr(), list.len()) };
+    decoded(answer, |detail| {
+        let (count, policy) = ((detail & 0xFF) as usize, (detail >> 8 & 0xFF) as u32);
+        let tasks = list.get(..count)?.iter().map(Record::task).collect::<Option<Vec<Task>>>()?;
+        Some(Set { policy, tasks })
+    })
+}
+
+/// The sheet of a set.
+pub fn write(policy: u32, tasks: &[Task]) -> Answer<Vec<u8>> {
+    let list: Vec<Record> = tasks.iter().map(Record::from).collect();
+    let mut sheet = vec![0; GREATEST_SHEET];
+    // SAFETY: as above
+    let answer = unsafe { burrbeech_write_list(policy, list.as_ptr(), list.len(), sheet.as_mut_ptr(), sheet.len()) };
+    decoded(answer, |detail| {
+        let length = usize::try_from(detail).ok()?;
+        sheet.get(..length).map(<[u8]>::to_vec)
+    })
+}
+
+/// The verdict and the response times of a sheet.
+pub fn analyse(sheet: &[u8]) -> Answer<Analysis> {
+    let mut times = [0; MOST_FRAMES * MOST_TASKS];
+    // SAFETY: as above
+    let answer = unsafe { burrbeech_analyse_sheet(sheet.as_ptr(), sheet.len(), times.as_mut_ptr(), times.len()) };
+    decoded(answer, |detail| {
+        let task_count = (detail >> 16 & 0xFF) as usize;
+        let verdict = verdict_of((detail & 0xFFFF) as usize, task_count)?;
+        let slots = times.chunks_exact(MOST_FRAMES).take(task_count).map(|eight| eight.try_into().expect("eight slots"));
+        Some(Analysis { task_count, verdict, times: slots.collect() })
+    })
+}
+
+/// 0 holds; 1 + 17p + b is a miss of task p with blocker b.
+fn verdict_of(outcome: usize, task_count: usize) -> Option<Verdict> {
+    if !(1..=MOST_TASKS).contains(&task_count) {
+        return None;
+    }
+    let Some(miss) = outcome.checked_sub(1) else { return Some(Verdict::Holds) };
+    let (task, blocker) = (miss / (NO_BLOCKER + 1), miss % (NO_BLOCKER + 1));
+    let blocker = Some(blocker).filter(|&blocker| blocker != NO_BLOCKER);
+    let known = task < task_count && blocker.is_none_or(|blocker| blocker < task_count);
+    known.then_some(Verdict::Missed { task, blocker })
+}
+
+/// The report's text, of a refused sheet too.
+pub fn report(sheet: &[u8]) -> Result<Vec<u8>, Trouble> {
+    let mut text = vec![0; REPORT_ROOM];
+    // SAFETY: as above
+    let answer = unsafe { burrbeech_report(sheet.as_ptr(), sheet.len(), text.as_mut_ptr(), text.len()) };
+    let written = decoded(answer, |detail| {
+        let length = usize::try_from(detail).ok()?;
+        text.get(..length).map(<[u8]>::to_vec)
+    })?;
+    written.map_err(|refusal| odd(refusal.number.into()))
+}
+
+/// The refusal, or what the detail of a success stands for. 12 cannot be: all the room that there can be need of is lent.
+fn decoded<T>(answer: u64, success: impl FnOnce(u64) -> Option<T>) -> Answer<T> {
+    let (number, detail) = ((answer & 0xFF) as u32, answer >> 8);
+    match number {
+        0 => success(detail).map(Ok).ok_or_else(|| odd(answer)),
+        7 | 9 | 10 | 11 if detail < MOST_TASKS as u64 => Ok(Err(Refusal { number, task: Some(detail as usize) })),
+        1..=6 | 8 if detail == 0 => Ok(Err(Refusal { number, task: None })),
+        _ => Err(odd(answer)),
+    }
+}
+
+fn odd(answer: u64) -> Trouble {
+    Trouble::Disagreement(format!("the library's answer {answer} stands for nothing that it can say here"))
+}
+
+#[cfg(test)]
+mod tests {
+    use super::*;
+
+    #[test]
+    fn outcomes_decode() {
+        assert_eq!(verdict_of(0, 1), Some(Verdict::Holds));
+        assert_eq!(verdict_of(1 + 17, 2), Some(Verdict::Missed { task: 1, blocker: Some(0) }));
+        assert_eq!(verdict_of(1 + 17 * 15 + 16, 16), Some(Verdict::Missed { task: 15, blocker: None }));
+    }
+
+    #[test]
+    fn numbers_that_say_nothing_are_trouble() {
+        assert_eq!(verdict_of(0, 0), None);
+        assert_eq!(verdict_of(0, 17), None);
+        assert_eq!(verdict_of(1 + 17 * 2, 2), None);
+        assert_eq!(verdict_of(1 + 2, 2), None);
+        for answer in [12, 13, 99, 255, 1 << 8 | 1, 16 << 8 | 7] {
+            assert!(decoded(answer, |_| Some(())).is_err(), "{answer}");
+        }
+    }
+}

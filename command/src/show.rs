@@ -1,0 +1,81 @@
+//! `show`: a sheet as the table that `compose` reads.
+use crate::explain::unread;
+use crate::faults::{self, Fault, Place};
+use crate::library::{self, Refusal};
+use crate::names::Name;
+use crate::output::Output;
+use crate::set::{Set, Task};
+use crate::sheet_bits::{self, End, SheetBits};
+use crate::status::{Status, Trouble};
+use crate::words::{self, counted, UNITS};
+use crate::{input, show_json, table};
+
+pub fn run(json: bool, name: &Name, output: &mut Output) -> Result<Status, Trouble> {
+    let bytes = match input::sheet(name) {
+        Ok(bytes) => bytes,
+        Err(trouble) => return unread(json, name, trouble, output),
+    };
+    let (text, status) = match library::read(&bytes)? {
+        Ok(set) => {
+            let text = admitted(&set, &bytes)?;
+            (if json { show_json::admitted(name, &set) } else { text }, Status::Done)
+        }
+        Err(refusal) => {
+            let fault = faults::of_sheet(refusal, &bytes)?;
+            let text = if json { show_json::refused(name, refusal, &fault, &bytes) } else { refused(refusal, &fault, &bytes) };
+            (text, Status::Refused)
+        }
+    };
+    output.put(text.as_bytes())?;
+    Ok(status)
+}
+
+/// The table of the set, which must compose to the sheet's own bytes.
+fn admitted(set: &Set, sheet: &[u8]) -> Result<String, Trouble> {
+    let text = table::text(set);
+    let same = match table::parse(text.as_bytes()) {
+        Ok(table) => library::write(table.policy, &table.tasks)?.is_ok_and(|composed| composed == sheet),
+        Err(_) => false,
+    };
+    same.then_some(text).ok_or_else(|| Trouble::Disagreement("the table does not compose to this sheet".to_string()))
+}
+
+/// The fields in the sheet's order with the fault marked. The first line is no comment, so that nobody composes it unawares.
+fn refused(refusal: Refusal, fault: &Fault, sheet: &[u8]) -> String {
+    let mark = |place: Place| if place == fault.place { format!("   # <== {}", fault.words) } else { String::new() };
+    let mut text = format!("{}: {}\n", words::refused(refusal), words::short(refusal.number));
+    text += &format!("# What can be read of the refused sheet, the fault marked with <==. {UNITS}\n");
+    let Some(bits) = sheet_bits::read(sheet) else { return text + &format!("# nothing can be read{}\n", mark(Place::Length)) };
+    if fault.place == Place::CheckWord {
+        text += "# The check word is wrong: the fields below are shown as they stand, and any of them may be spoiled.\n";
+    }
+    text += &format!("# length {}\n", counted(sheet.len() as u64, "byte"));
+    text += &format!("# check word {:04X}{}\n", bits.stated_word, mark(Place::CheckWord));
+    text += &format!("# version {}{}\n", bits.version, mark(Place::Version));
+    text += &format!("{}{}\n", table::policy_line(bits.policy), mark(Place::Policy));
+    text += &format!("# task count {}{}\n", bits.task_count, mark(Place::TaskCount));
+    text += &format!("# spare bits {}{}\n", bits.spare, mark(Place::Spare));
+    text + &rows(&bits, mark) + &format!("# {}{}\n", end_words(&bits), mark(Place::End))
+}
+
+/// The records that are there, as rows of the table.
+fn rows(bits: &SheetBits, mark: impl Fn(Place) -> String) -> String {
+    let tasks: Vec<Task> = bits.records.iter().map(|record| record.task.clone()).collect();
+    let rows = table::rows(&tasks);
+    let row = |(task, row): (usize, &String)| format!("{row}{}\n", mark(Place::Task(task)));
+    let (columns, rows) = rows.split_first().expect("a column line");
+    format!("{columns}\n") + &rows.iter().enumerate().map(row).collect::<String>()
+}
+
+fn end_words(bits: &SheetBits) -> String {
+    let records = counted(bits.records.len() as u64, "record");
+    match &bits.end {
+        End::Left(left) if left.is_empty() => format!("after {records}: no bit"),
+        End::Left(left) if left.len() < 8 => format!("after {records}: fill bits {left}"),
+        End::Left(left) => format!("after {records}: {} bits", left.len()),
+        End::FixedCut(there) => format!("after {records}: {}, too few for the next record", counted(*there as u64, "bit")),
+        End::FramesCut(_) => "the last record is cut off".to_string(),
+        End::FrameCount => "the last record's frame count cannot be one: nothing after it can be read".to_string(),
+        End::Version => "the records of this version are not known".to_string(),
+    }
+}

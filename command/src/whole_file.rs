@@ -1,0 +1,54 @@
+//! Writing a whole file or none.
+use std::ffi::OsString;
+use std::fs::{self, File, OpenOptions, Permissions};
+use std::io::{self, ErrorKind, Write};
+use std::path::{Path, PathBuf};
+
+/// Puts the bytes into a file of this name. What is there and no regular file, such as a device, is written to directly.
+pub fn write(path: &Path, bytes: &[u8]) -> io::Result<()> {
+    match OpenOptions::new().write(true).open(path) {
+        Ok(mut there) => {
+            let known = there.metadata()?;
+            match known.is_file() {
+                true => replace(&fs::canonicalize(path)?, bytes, Some(known.permissions())),
+                false => there.write_all(bytes),
+            }
+        }
+        Err(error) if error.kind() == ErrorKind::NotFound => replace(path, bytes, None),
+        Err(error) => Err(error),
+    }
+}
+
+/// Writes beside the file and renames, so that the name stands for the old file or the whole new one at every moment.
+fn replace(path: &Path, bytes: &[u8], permissions: Option<Permissions>) -> io::Result<()> {
+    let (beside, file) = create_beside(path)?;
+    let done = fill(file, bytes, permissions).and_then(|()| fs::rename(&beside, path));
+    if done.is_err() {
+        let _ = fs::remove_file(&beside);
+    }
+    done
+}
+
+/// A new file in the same folder, under a name that nothing has.
+fn create_beside(path: &Path) -> io::Result<(PathBuf, File)> {
+    let name = path.file_name().ok_or_else(|| io::Error::new(ErrorKind::InvalidInput, "no name of a file"))?;
+    let mut tries = 0;
+    loop {
+        let mut other = OsString::from(".");
+        other.push(name);
+        other.push(format!(".{}-{tries}.part", std::process::id()));
+        let beside = path.with_file_name(other);
+        match OpenOptions::new().write(true).create_new(true).open(&beside) {
+            Err(error) if error.kind() == ErrorKind::AlreadyExists && tries < 100 => tries += 1,
+            opened => return opened.map(|file| (beside, file)),
+        }
+    }
+}
+
+fn fill(mut file: File, bytes: &[u8], permissions: Option<Permissions>) -> io::Result<()> {
+    file.write_all(bytes)?;
+    if let Some(permissions) = permissions {
+        file.set_permissions(permissions)?;
+    }
+    file.sync_all()
+}
