@@ -10,6 +10,7 @@ pub struct Jobs {
     pub period: u32,
     pub count: u32,
     pub start_frame: usize,
+    pub frames: usize,
     /// How many whole rounds of all frames the jobs make, and the work of one.
     pub rounds: u64,
     pub round: u64,
@@ -21,7 +22,6 @@ pub struct Jobs {
 /// The demand of one frame at one time.
 #[derive(Clone, Debug)]
 pub struct Demand {
-    pub task: usize,
     pub frame: usize,
     pub at: u32,
     pub blocking: u32,
@@ -49,7 +49,7 @@ fn jobs(number: usize, task: &Task, t: u32) -> Option<Jobs> {
     let round = sum_from(&task.frames, 0, frames);
     let rest: Vec<u32> = task.frames.iter().cycle().skip(start_frame).take(left).copied().collect();
     let work = rounds * round + rest.iter().map(|&frame| u64::from(frame)).sum::<u64>();
-    Some(Jobs { task: number, period: task.period, count, start_frame, rounds, round, rest, work })
+    Some(Jobs { task: number, period: task.period, count, start_frame, frames, rounds, round, rest, work })
 }
 
 /// The demand at t of a frame of the task at this place of the priority order.
@@ -59,7 +59,7 @@ pub fn of(findings: &Findings, place: usize, frame: usize, at: u32) -> Option<De
     let above = findings.ordered[..place].iter();
     let higher = above.map(|finding| jobs(finding.task, &findings.set.tasks[finding.task], at)).collect::<Option<Vec<Jobs>>>()?;
     let total = u64::from(blocking) + u64::from(own) + higher.iter().map(|jobs| jobs.work).sum::<u64>();
-    Some(Demand { task, frame, at, blocking, own, higher, total })
+    Some(Demand { frame, at, blocking, own, higher, total })
 }
 
 /// The demand at the deadline of a task's lowest-numbered largest frame.

@@ -64,7 +64,8 @@ fn task_text(findings: &Findings, place: usize) -> Result<String, Trouble> {
     let blocking = format!("  blocking {}: {}\n", finding.blocking, blocking_words(findings, place));
     let rest = match &finding.times {
         Some(times) => times.iter().enumerate().map(|(frame, &time)| frame_line(findings, finding, frame, time)).collect(),
-        None => missed_text(findings, place)?,
+        None if is_named(findings, finding.task) => return Ok(head + &named_text(findings, place)?),
+        None => passed_over_text(&deadline_demand(findings, place)?),
     };
     Ok(head + &blocking + &rest)
 }
@@ -83,28 +84,42 @@ fn frame_line(findings: &Findings, finding: &Finding, frame: usize, time: u32) -
     format!("  frame {frame}: work {}, response time {time}, slack {}\n", task.frames[frame], slack(task.deadline, time))
 }
 
-/// A response time is at most the deadline.
+/// The findings have no response time above the deadline.
 pub fn slack(deadline: u32, time: u32) -> u32 {
-    deadline.checked_sub(time).expect("a response time above the deadline")
+    deadline - time
 }
 
-/// The demand at the deadline, term by term of the task that the verdict names, and as a sum of the others that do not pass.
-fn missed_text(findings: &Findings, place: usize) -> Result<String, Trouble> {
-    let demand = demand::at_deadline(findings, place).ok_or_else(|| Trouble::Disagreement("a missed task without demand".to_string()))?;
+/// Whether the verdict names this task.
+fn is_named(findings: &Findings, number: usize) -> bool {
+    matches!(findings.verdict, Verdict::Missed { task, .. } if task == number)
+}
+
+pub fn deadline_demand(findings: &Findings, place: usize) -> Result<Demand, Trouble> {
+    demand::at_deadline(findings, place).ok_or_else(|| Trouble::Disagreement("a task that does not pass has no demand".to_string()))
+}
+
+/// A task that does not pass and is not the one that the verdict names: its demand in one sum.
+fn passed_over_text(demand: &Demand) -> String {
+    let Demand { frame, total, .. } = demand;
+    format!("{}  demand of frame {frame} at the deadline: {total}, which is {}\n", no_time_line(demand), excess_words(demand))
+}
+
+/// The task that the verdict names: its demand term by term.
+fn named_text(findings: &Findings, place: usize) -> Result<String, Trouble> {
+    let demand = deadline_demand(findings, place)?;
     let Demand { frame, own, at, .. } = demand;
-    let first = format!("  does not pass: frame {frame}, its largest with work {own}, has no response time up to the deadline {at}\n");
-    let named = matches!(findings.verdict, Verdict::Missed { task, .. } if task == demand.task);
-    if !named {
-        let total = demand.total;
-        return Ok(format!("{first}  demand of frame {frame} at the deadline: {total}, which is {}\n", excess_words(&demand)));
-    }
     let width = demand.total.to_string().len();
     let line = |number: u64, words: String| format!("    {number:>width$}  {words}\n");
-    let mut text = format!("{first}  demand of frame {frame} at the deadline, term by term:\n");
+    let mut text = format!("{}  demand of frame {frame} at t = {at}, the deadline:\n", no_time_line(&demand));
     text += &line(demand.blocking.into(), format!("blocking: {}", blocking_words(findings, place)));
-    text += &line(own.into(), format!("the frame's own work: frame {frame}"));
+    text += &line(own.into(), format!("own frame {frame}"));
     text.extend(demand.higher.iter().map(|jobs| line(jobs.work, jobs_words(jobs, at))));
     Ok(text + &line(demand.total, format!("in all, {}", excess_words(&demand))))
+}
+
+fn no_time_line(demand: &Demand) -> String {
+    let Demand { frame, own, at, .. } = demand;
+    format!("  does not pass: the demand of its largest frame, frame {frame} with work {own}, is above t for every t from 1 to the deadline {at}\n")
 }
 
 fn excess_words(demand: &Demand) -> String {
@@ -112,20 +127,17 @@ fn excess_words(demand: &Demand) -> String {
     format!("{} above the deadline {}", counted(excess, "tick"), demand.at)
 }
 
-/// `task 0: 3 jobs in 25 ticks (period 10), frames from 1 on, going round: 2 rounds of 12, then 5 + 4`.
+/// `task 0: 5 jobs in 18 ticks (period 4), from frame 2 on, going round: 1 round of 9, then 3`.
 fn jobs_words(jobs: &Jobs, at: u32) -> String {
     let Jobs { task, period, start_frame, rounds, round, rest, .. } = jobs;
-    let count = counted(jobs.count.into(), "job");
-    let rest = joined(rest, " + ");
+    let (count, rest) = (counted(jobs.count.into(), "job"), joined(rest, " + "));
     let work = match (rounds, rest.is_empty()) {
-        (0, _) => rest,
-        (_, true) => format!("{} of {round}", counted(*rounds, "round")),
-        (_, false) => format!("{} of {round}, then {rest}", counted(*rounds, "round")),
+        _ if jobs.frames == 1 => format!("each with work {round}"),
+        (0, _) => format!("from frame {start_frame} on, going round: {rest}"),
+        (_, true) => format!("from frame {start_frame} on, going round: {} of {round}", counted(*rounds, "round")),
+        (_, false) => format!("from frame {start_frame} on, going round: {} of {round}, then {rest}", counted(*rounds, "round")),
     };
-    format!(
-        "task {task}: {count} in {} (period {period}), frames from frame {start_frame} on, going round: {work}",
-        counted(at.into(), "tick")
-    )
+    format!("higher task {task}: {count} in {} (period {period}), {work}", counted(at.into(), "tick"))
 }
 
 fn closing(findings: &Findings) -> String {

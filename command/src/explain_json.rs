@@ -1,7 +1,7 @@
 //! `explain --json`: the object of `check`, with the set, the times and the terms of the demand.
 use crate::check::{refusal_object, verdict_object};
-use crate::demand::{self, Demand};
-use crate::explain::slack;
+use crate::demand::Demand;
+use crate::explain::{deadline_demand, slack};
 use crate::faults::Fault;
 use crate::findings::{Finding, Findings};
 use crate::json::{array, Object};
@@ -48,9 +48,8 @@ fn finding_object(findings: &Findings, finding: &Finding) -> String {
 
 /// The demand at the deadline of the missed task's lowest-numbered largest frame.
 fn demand_object(findings: &Findings, task: usize) -> Result<String, Trouble> {
-    let place = findings.ordered.iter().position(|finding| finding.task == task);
-    let demand = place.and_then(|place| demand::at_deadline(findings, place));
-    let demand = demand.ok_or_else(|| Trouble::Disagreement("a missed task without demand".to_string()))?;
+    let place = findings.ordered.iter().position(|finding| finding.task == task).expect("the missed task has a place");
+    let demand = deadline_demand(findings, place)?;
     let Demand { frame, at, blocking, own, total, .. } = demand;
     let higher = array(demand.higher.iter().map(|jobs| {
         let object = Object::new().number("task", jobs.task as u64).number("jobs", jobs.count);

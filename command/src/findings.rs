@@ -80,8 +80,9 @@ fn finding(line: &str, set: &Set, analysis: &Analysis) -> Option<Finding> {
     let same_times = times.iter().flatten().copied().chain(std::iter::repeat(0)).take(slots.len()).eq(slots.iter().copied());
     let same_task = period.parse() == Ok(task.period) && deadline.parse() == Ok(task.deadline);
     let whole = times.is_none() || frames == task.frames.len();
+    let in_time = times.iter().flatten().all(|&time| time <= task.deadline);
     let finding = Finding { task: number, blocking: blocking.parse().ok()?, blocker: None, times };
-    (same_times && same_task && whole).then_some(finding)
+    (same_times && same_task && whole && in_time).then_some(finding)
 }
 
 /// Names who causes each blocking; it must be the library's number, and of the missed task the library's blocker.

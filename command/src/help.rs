@@ -77,8 +77,8 @@ pub fn text(verb: Option<Verb>) -> String {
     }
 }
 
-const OTHERS: &str = "  burrbeech help [VERB] | --help          this text, or the help of a verb
-  burrbeech --version                     the version
+const OTHERS: &str = "  burrbeech help [VERB]                     this text (also --help), or that of a verb
+  burrbeech --version                       the version
 ";
 
 const COMMON: &str = "No FILE, or `-`, is standard input. `--` ends the options.
@@ -136,8 +136,8 @@ with the fault marked by `<==`; the first line is then `refused` and the number,
   --json  prints one object:
   {\"file\":NAME,\"admitted\":true,\"tasks\":COUNT,\"policy\":NUMBER,\"policy_name\":TEXT,
    \"list\":[{\"task\",\"period\",\"deadline\",\"lock\",\"frames\":[...]}...]}
-  of a refused sheet that of `explain --json`, then \"admitted\":false and, unless the length is wrong, \"length\", \"check_word\",
-  \"computed_check_word\", \"version\", \"policy\", \"policy_name\":TEXT or null, \"tasks\", \"spare\":BITS and \"list\", whose records have
+  of a refused sheet that of `explain --json`, then \"admitted\":false and, unless the length is wrong, \"length\", \"check_word\":HEX,
+  \"computed_check_word\":HEX, \"version\", \"policy\", \"policy_name\":TEXT or null, \"tasks\", \"spare\":BITS and \"list\", whose records have
   \"frame_count\" too
 
 Exit status: 0 admitted, 2 refused, 3 not read, or usage.

@@ -23,7 +23,7 @@ pub fn at_most(most: usize, name: &Name) -> Result<Vec<u8>, Trouble> {
 fn open(name: &Name) -> Result<File, Trouble> {
     let opened = match name {
         Name::File(path) => File::open(path),
-        _ if streams::input_was_closed() => return Err(Trouble::File(name.clone(), "standard input is closed".to_string())),
+        _ if streams::input_was_closed() => return Err(Trouble::File(name.clone(), "it is closed".to_string())),
         // as a file of its own: the library's standard input reads ahead, and takes a stream that cannot be read for an empty one
         _ => io::stdin().as_fd().try_clone_to_owned().map(File::from),
     };

@@ -19,6 +19,14 @@ impl Name {
         }
     }
 
+    /// The name in a message about the file as a whole.
+    pub fn told(&self) -> String {
+        match self {
+            Name::StandardInput => "standard input".to_string(),
+            _ => self.shown(),
+        }
+    }
+
     /// The name as it is, for a JSON string; bytes that are no UTF-8 are replaced.
     pub fn plain(&self) -> String {
         match self {

@@ -56,7 +56,7 @@ fn failed(error: io::Error) -> Trouble {
 pub fn complain(trouble: &Trouble) {
     let words = match trouble {
         Trouble::Usage(words) => format!("burrbeech: {words}\nburrbeech: `burrbeech --help` says what can be given\n"),
-        Trouble::File(name, words) => format!("burrbeech: {}: {words}\n", name.shown()),
+        Trouble::File(name, words) => format!("burrbeech: {}: {words}\n", name.told()),
         Trouble::Line(name, line, words) => format!("{}:{line}: {words}\n", name.shown()),
         Trouble::Disagreement(words) => format!("burrbeech: internal disagreement, no verdict: {words}\n"),
         Trouble::BrokenPipe => return,

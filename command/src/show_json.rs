@@ -30,7 +30,8 @@ pub fn refused(name: &Name, refusal: Refusal, fault: &Fault, sheet: &[u8]) -> St
 
 /// The fields in the sheet's order; `list` has the records that are there.
 fn fields(object: Object, bits: &SheetBits) -> Object {
-    let object = object.number("check_word", bits.stated_word).number("computed_check_word", bits.computed_word);
+    let word = |word: u16| format!("{word:04X}");
+    let object = object.text("check_word", &word(bits.stated_word)).text("computed_check_word", &word(bits.computed_word));
     let object = policy(object.number("version", bits.version), bits.policy).number("tasks", bits.task_count);
     let record =
         |(number, record): (usize, &RecordBits)| task_object(number, &record.task).number("frame_count", record.frame_count).close();

@@ -14,6 +14,7 @@ pub fn write(path: &Path, bytes: &[u8]) -> io::Result<()> {
                 false => there.write_all(bytes),
             }
         }
+        Err(_) if path.is_symlink() && !path.exists() => Err(io::Error::new(ErrorKind::NotFound, "a link that leads nowhere")),
         Err(error) if error.kind() == ErrorKind::NotFound => replace(path, bytes, None),
         Err(error) => Err(error),
     }
