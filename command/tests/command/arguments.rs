@@ -1,0 +1,57 @@
+//! What can be asked for, and what cannot.
+use crate::running::{run, ROOT};
+
+#[test]
+fn wrong_words_are_usage_errors() {
+    let lines = "|frobnicate|check --quiet|check -x a|check -qq|check - -|check a - b -|report a b|report --json a|report -q|explain a b|\
+                 explain -q a|show a b|show -o x|compose a b|compose -o|compose -o a -o b|compose --json|refusals x|refusals -q|help nosuch|\
+                 help check show|--help nosuch|--version x|--json|-q|-|--";
+    for line in lines.split('|') {
+        let words: Vec<&str> = line.split_whitespace().collect();
+        let ran = run(&words);
+        let message = ran.failed(3);
+        assert!(message.starts_with("burrbeech: ") && message.contains("burrbeech --help"), "{line}: {message}");
+    }
+}
+
+#[test]
+fn odd_words_are_shown_with_escapes() {
+    let ran = run(&["check", "--\u{1b}[2J\nholds"]);
+    assert!(ran.failed(3).contains("\"--\\u{1b}[2J\\nholds\""));
+    assert_eq!(ran.err.lines().count(), 2);
+}
+
+#[test]
+fn help_is_given_in_each_way() {
+    let help = run(&["--help"]);
+    assert!(help.done(0).contains("Exit status"));
+    for word in ["-h", "help"] {
+        assert_eq!(run(&[word]).done(0), help.text());
+    }
+    for verb in ["check", "report", "explain", "show", "compose", "refusals"] {
+        let text = run(&["help", verb]);
+        assert!(text.done(0).starts_with(&format!("usage: burrbeech {verb}")));
+        for words in [[verb, "--help"], [verb, "-h"], ["--help", verb]] {
+            assert_eq!(run(&words).done(0), text.text());
+        }
+    }
+}
+
+#[test]
+fn the_version_is_the_headers() {
+    let header = std::fs::read_to_string(format!("{ROOT}/include/burrbeech.h")).unwrap();
+    let version = header.split("#define BURRBEECH_VERSION \"").nth(1).unwrap().split('"').next().unwrap();
+    assert_eq!(run(&["--version"]).done(0), format!("burrbeech {version}\n"));
+}
+
+#[test]
+fn each_refusal_has_words() {
+    let ran = run(&["refusals"]);
+    let lines: Vec<&str> = ran.done(0).lines().collect();
+    assert_eq!(lines.len(), 12);
+    for (i, line) in lines.iter().enumerate() {
+        let (number, words) = line.trim_start().split_once("  ").unwrap();
+        assert_eq!(number, (i + 1).to_string());
+        assert!(words.len() > 10, "{line}");
+    }
+}

@@ -1,0 +1,109 @@
+//! Sheets damaged in every way of the refusal table, and muddled ones: the command's answers against the second reading's.
+use crate::json::{self, number_or_null, Value};
+use crate::running::{run, run_with, Folder};
+use crate::shipped::status_of;
+use second::generate::{admitted_set, damaged_sheets, edge_set, muddled_sheet, random_sheet};
+use second::random::Random;
+use second::refusal::Refusal;
+use second::sheet;
+use std::collections::BTreeSet;
+
+/// The task that the refusal names, if its number is one that names a task.
+fn named_task(refusal: Refusal) -> Option<usize> {
+    matches!(refusal.number(), 7 | 9 | 10 | 11).then(|| refusal.task())
+}
+
+/// At least 1,000 damaged sheets: of each set an even choice that takes every way of damage in turn.
+fn damaged(random: &mut Random) -> Vec<(Vec<u8>, Refusal)> {
+    let mut all = Vec::new();
+    for round in 0.. {
+        if all.len() >= 1_000 {
+            break;
+        }
+        let set = if round % 4 == 0 { edge_set(random) } else { admitted_set(random) };
+        let sheets = damaged_sheets(random, &set);
+        let step = sheets.len() / 60 + 1;
+        all.extend(sheets.into_iter().skip(round % step).step_by(step).map(|sheet| (sheet.bytes, sheet.refusal)));
+    }
+    all
+}
+
+#[test]
+fn each_verb_gives_the_refusal() {
+    let mut random = Random::new(101);
+    let folder = Folder::new("damaged");
+    let damaged = damaged(&mut random);
+    let mut words = vec!["check".to_string(), "--json".to_string()];
+    let mut numbers = BTreeSet::new();
+    for (i, (bytes, refusal)) in damaged.iter().enumerate() {
+        words.push(folder.file(format!("{i}.sheet"), bytes).display().to_string());
+        numbers.insert(refusal.number());
+    }
+    assert_eq!(numbers, (1..=11).collect());
+    let objects = json::lines(run(&words).done(2));
+    assert_eq!(objects.len(), damaged.len());
+    for (i, object) in objects.iter().enumerate() {
+        let (bytes, refusal) = &damaged[i];
+        assert_eq!(object.get("refusal").number(), u64::from(refusal.number()), "{bytes:02x?}");
+        assert_eq!(object.get("task"), &number_or_null(named_task(*refusal)));
+        one_is_refused(&words[i + 2], *refusal);
+    }
+}
+
+fn one_is_refused(path: &str, refusal: Refusal) {
+    let number = refusal.number();
+    assert_eq!(run(&["report", path]).done(2), format!("refused {number}\n"));
+    let place = named_task(refusal).map_or(String::new(), |task| format!(" (task {task})"));
+    let start = format!("refused {number}{place}: ");
+    let explained = run(&["explain", path]);
+    assert!(explained.done(2).starts_with(&format!("{path}: {start}")), "{}", explained.text());
+    let shown = run(&["show", path]);
+    assert!(shown.done(2).starts_with(&start), "{}", shown.text());
+    assert_eq!(shown.text().matches("<==").count(), 2, "{}", shown.text());
+    for verb in ["explain", "show"] {
+        let object = json::object(run(&[verb, "--json", path]).done(2).trim_end());
+        assert_eq!(object.get("refusal").number(), u64::from(number));
+        assert_ne!(object.get("fault").text(), "");
+    }
+}
+
+/// Several faults contend, or the bytes are anything: the first refusal in the scope's order, and no disagreement.
+#[test]
+fn muddled_and_random_sheets() {
+    let mut random = Random::new(102);
+    let mut refused = 0;
+    for round in 0..600 {
+        let set = admitted_set(&mut random);
+        let bytes = if round % 2 == 0 { muddled_sheet(&mut random, &set) } else { random_sheet(&mut random) };
+        let object = json::object(run_with(&["explain", "--json"], &bytes).done(status_of(&bytes)).trim_end());
+        if let Err(refusal) = sheet::read(&bytes) {
+            assert_eq!(object.get("refusal").number(), u64::from(refusal.number()), "{bytes:02x?}");
+            assert_eq!(object.get("task"), &number_or_null(named_task(refusal)), "{bytes:02x?}");
+            refused += 1;
+        } else {
+            assert_eq!(object.find("refusal"), None);
+        }
+        let shown = json::object(run_with(&["show", "--json"], &bytes).text().trim_end());
+        assert_eq!(shown.get("admitted"), &Value::Truth(sheet::read(&bytes).is_ok()));
+    }
+    assert!(refused > 300, "{refused} refused");
+}
+
+/// A wrong check word hides no field.
+#[test]
+fn a_changed_sheet_is_shown_as_it_stands() {
+    let mut random = Random::new(103);
+    for _ in 0..50 {
+        let set = admitted_set(&mut random);
+        let mut bytes = sheet::write(&set);
+        *bytes.last_mut().unwrap() ^= 1;
+        let object = json::object(run_with(&["show", "--json"], &bytes).done(2).trim_end());
+        assert_eq!(object.get("refusal").number(), 2);
+        assert_eq!(object.get("policy").number(), u64::from(set.policy));
+        for (shown, task) in object.get("list").items().iter().zip(&set.tasks) {
+            assert_eq!(shown.get("period").number(), u64::from(task.period));
+            assert_eq!(shown.get("frames").numbers(), task.frames.iter().map(|&c| u64::from(c)).collect::<Vec<_>>());
+        }
+        assert_eq!(object.get("list").items().len(), set.tasks.len());
+    }
+}
