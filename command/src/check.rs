@@ -20,7 +20,7 @@ pub fn run(options: &CheckOptions, output: &mut Output) -> Result<Status, Troubl
     let mut totals = Totals::default();
     let mut worst = Status::Done;
     for name in &options.sources {
-        let status = one(name, options, output)?;
+        let status = one(name, options, output).map_err(|trouble| trouble.about(name))?;
         totals.count(status);
         worst = worst.max(status);
     }

@@ -208,3 +208,23 @@ fn monotony(number: usize, task: &Task) -> Option<Fault> {
                 much as the same number of frames from any other frame. Frames that fall from the largest on always do.";
     crate::demand::start_frame(&task.frames).is_none().then(|| fault(Place::Task(number), words, rule))?
 }
+
+#[cfg(test)]
+mod tests {
+    use super::*;
+    use crate::library;
+
+    /// Of a set that is admitted no refusal is made up.
+    #[test]
+    fn no_fault_is_said_where_there_is_none() {
+        let task = Task { period: 10, deadline: 4, lock: 2, frames: vec![2, 1] };
+        let sheet = library::write(0, std::slice::from_ref(&task)).expect("an answer").expect("a sheet");
+        for number in 1..=12 {
+            for task_number in [None, Some(0), Some(1)] {
+                let refusal = Refusal { number, task: task_number };
+                assert!(matches!(of_sheet(refusal, &sheet), Err(Trouble::Disagreement(_))), "{refusal:?}");
+                assert!(matches!(of_list(refusal, 0, std::slice::from_ref(&task)), Err(Trouble::Disagreement(_))), "{refusal:?}");
+            }
+        }
+    }
+}

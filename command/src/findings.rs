@@ -103,3 +103,67 @@ fn name_blockers(findings: &mut Findings) -> Result<(), Trouble> {
     }
     Ok(())
 }
+
+#[cfg(test)]
+mod tests {
+    use super::*;
+    use crate::set::Task;
+
+    /// Case F of the scope, with its report.
+    fn case_f() -> (Set, Analysis, &'static str) {
+        let task = |period, deadline, lock, frame| Task { period, deadline, lock, frames: vec![frame] };
+        let set = Set { policy: 0, tasks: vec![task(10, 4, 0, 2), task(20, 20, 3, 5)] };
+        let slots = |time| [time, 0, 0, 0, 0, 0, 0, 0];
+        let analysis = Analysis { task_count: 2, verdict: Verdict::Holds, times: vec![slots(4), slots(7)] };
+        (set, analysis, "holds 2\n0 10 4 2 4\n1 20 20 0 7\n")
+    }
+
+    fn findings(report: &str) -> Option<Findings> {
+        let (set, analysis, _) = case_f();
+        let ordered = parsed(report.as_bytes(), &set, &analysis)?;
+        Some(Findings { set, verdict: analysis.verdict, ordered })
+    }
+
+    #[test]
+    fn a_report_that_agrees_is_taken() {
+        let mut findings = findings(case_f().2).expect("the report of case F");
+        assert!(name_blockers(&mut findings).is_ok() && demand::agrees(&findings).is_ok());
+        assert_eq!((findings.ordered[0].blocker, findings.ordered[1].blocker), (Some(1), None));
+    }
+
+    #[test]
+    fn a_report_that_does_not_agree_is_not() {
+        let changes = [
+            ("holds 2", "holds 3"),
+            ("holds 2", "missed 2 0 1"),
+            ("0 10 4 2 4\n", ""),
+            ("0 10 4 2 4\n", "0 10 4 2 4\n0 10 4 2 4\n"),
+            ("0 10 4 2 4", "2 10 4 2 4"),
+            ("0 10 4 2 4", "0 11 4 2 4"),
+            ("0 10 4 2 4", "0 10 5 2 4"),
+            ("0 10 4 2 4", "0 10 4 2 3"),
+            ("0 10 4 2 4", "0 10 4 2 4 4"),
+            ("0 10 4 2 4", "0 10 4 2 missed"),
+            ("0 10 4 2 4", "0 10 4 x 4"),
+            ("0 10 4 2 4", "0 10 4 2"),
+        ];
+        for (from, to) in changes {
+            assert!(findings(&case_f().2.replace(from, to)).is_none(), "{to:?}");
+        }
+    }
+
+    #[test]
+    fn blocking_and_times_must_be_those_of_the_words() {
+        for (from, to) in [("0 10 4 2 4", "0 10 4 1 4"), ("1 20 20 0 7", "1 20 20 1 7")] {
+            let mut findings = findings(&case_f().2.replace(from, to)).expect("a report in form");
+            assert!(name_blockers(&mut findings).is_err(), "{to}");
+        }
+        let swapped = findings("holds 2\n1 20 20 0 7\n0 10 4 2 4\n").expect("a report in form");
+        assert!(demand::agrees(&swapped).is_err());
+        let mut slow = findings(case_f().2).expect("the report of case F");
+        slow.ordered[1].times = Some(vec![8]);
+        assert!(demand::agrees(&slow).is_err());
+        slow.ordered[1].times = None;
+        assert!(demand::agrees(&slow).is_err());
+    }
+}

@@ -43,7 +43,7 @@ impl Verb {
     fn summary(self) -> &'static str {
         match self {
             Verb::Check => "a line for each sheet, totals last",
-            Verb::Report => "the report of the scope, byte for byte",
+            Verb::Report => "the report in figures: verdict, order, blocking, times",
             Verb::Explain => "why a sheet holds, misses or is refused, in words",
             Verb::Show => "the set of a sheet as a text table",
             Verb::Compose => "a sheet from such a table",
@@ -157,5 +157,7 @@ A line that is wrong is named on standard error as TABLE:LINE, and nothing is wr
 Exit status: 0 written, 2 the set is refused, 3 the text is no table, not read or not written, or usage.
 ";
 
-const REFUSALS: &str = "Prints a line for each number. The first reason that applies, in the scope's order, is the answer.
+const REFUSALS: &str =
+    "Prints a line for each number. Of several reasons the first decides: 1, 2, 3, 4, 5 for the header, 6; then task by task 7 and 8;
+then 8 and 5 for what follows the records; then task by task 9, 10, 11.
 ";

@@ -46,7 +46,7 @@ pub fn array<T: ToString>(values: impl IntoIterator<Item = T>) -> String {
     format!("[{}]", values.join(","))
 }
 
-/// The text in quotes; what does not print in ASCII or could end a line anywhere is escaped.
+/// The text in quotes, with escapes for control characters and for all that ends a line anywhere.
 pub fn string(text: &str) -> String {
     format!("\"{}\"", text.chars().map(escaped).collect::<String>())
 }

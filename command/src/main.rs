@@ -48,10 +48,10 @@ fn run(request: Request, output: &mut Output) -> Result<Status, Trouble> {
         Request::Version => output.put(help::version().as_bytes()).map(|()| Status::Done),
         Request::Refusals => output.put(words::refusals().as_bytes()).map(|()| Status::Done),
         Request::Check(options) => check::run(&options, output),
-        Request::Report(source) => report::run(&source, output),
-        Request::Explain { json, source } => explain::run(json, &source, output),
-        Request::Show { json, source } => show::run(json, &source, output),
-        Request::Compose { table, to } => compose::run(&table, to.as_ref(), output),
+        Request::Report(source) => report::run(&source, output).map_err(|trouble| trouble.about(&source)),
+        Request::Explain { json, source } => explain::run(json, &source, output).map_err(|trouble| trouble.about(&source)),
+        Request::Show { json, source } => show::run(json, &source, output).map_err(|trouble| trouble.about(&source)),
+        Request::Compose { table, to } => compose::run(&table, to.as_ref(), output).map_err(|trouble| trouble.about(&table)),
     }
 }
 

@@ -1,6 +1,6 @@
 //! Writing to standard output, where every failure is seen, and complaints to standard error.
 use crate::names::Name;
-use crate::status::{system_words, Trouble};
+use crate::status::{system_words, Trouble, DISAGREEMENT};
 use crate::streams;
 use std::fs::File;
 use std::io::{self, BufWriter, ErrorKind, IsTerminal, Write};
@@ -58,7 +58,7 @@ pub fn complain(trouble: &Trouble) {
         Trouble::Usage(words) => format!("burrbeech: {words}\nburrbeech: `burrbeech --help` says what can be given\n"),
         Trouble::File(name, words) => format!("burrbeech: {}: {words}\n", name.told()),
         Trouble::Line(name, line, words) => format!("{}:{line}: {words}\n", name.shown()),
-        Trouble::Disagreement(words) => format!("burrbeech: internal disagreement, no verdict: {words}\n"),
+        Trouble::Disagreement(words) => format!("burrbeech: {DISAGREEMENT}: {words}\n"),
         Trouble::BrokenPipe => return,
     };
     let _ = io::stderr().write_all(words.as_bytes());

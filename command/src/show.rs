@@ -79,3 +79,18 @@ fn end_words(bits: &SheetBits) -> String {
         End::Version => "the records of this version are not known".to_string(),
     }
 }
+
+#[cfg(test)]
+mod tests {
+    use super::*;
+
+    /// A table is shown of the very bytes that it composes to.
+    #[test]
+    fn a_table_of_another_sheet_is_not_shown() {
+        let task = |lock| Task { period: 10, deadline: 4, lock, frames: vec![2] };
+        let set = Set { policy: 0, tasks: vec![task(1)] };
+        let [sheet, other] = [1, 2].map(|lock| library::write(0, &[task(lock)]).expect("an answer").expect("a sheet"));
+        assert!(admitted(&set, &sheet).is_ok());
+        assert!(matches!(admitted(&set, &other), Err(Trouble::Disagreement(_))));
+    }
+}

@@ -28,7 +28,17 @@ impl Trouble {
     pub fn of_file(name: &Name, error: &std::io::Error) -> Self {
         Trouble::File(name.clone(), system_words(error))
     }
+
+    /// A disagreement about this file.
+    pub fn about(self, name: &Name) -> Self {
+        match self {
+            Trouble::Disagreement(words) => Trouble::File(name.clone(), format!("{DISAGREEMENT}: {words}")),
+            other => other,
+        }
+    }
 }
+
+pub const DISAGREEMENT: &str = "internal disagreement, no verdict";
 
 /// The system's words for an error, without its number.
 pub fn system_words(error: &std::io::Error) -> String {

@@ -53,3 +53,20 @@ fn fill(mut file: File, bytes: &[u8], permissions: Option<Permissions>) -> io::R
     }
     file.sync_all()
 }
+
+#[cfg(test)]
+mod tests {
+    use super::*;
+
+    /// A rename that fails leaves nothing beside.
+    #[test]
+    fn nothing_is_left_behind() {
+        let folder = std::env::temp_dir().join(format!("burrbeech-whole-file-{}", std::process::id()));
+        let taken = folder.join("taken");
+        fs::create_dir_all(taken.join("inside")).expect("a folder");
+        assert!(replace(&taken, b"bytes", None).is_err());
+        let names = fs::read_dir(&folder).expect("the folder").count();
+        fs::remove_dir_all(&folder).expect("the folder can go");
+        assert_eq!(names, 1);
+    }
+}

@@ -56,6 +56,13 @@ fn the_other_files_are_still_checked() {
     }
 }
 
+/// A closed input is no matter where it is not read.
+#[test]
+fn a_closed_input_beside_a_file() {
+    assert_eq!(in_root("\"$0\" report sheets/f.sheet <&-").done(0), "holds 2\n0 10 4 2 4\n1 20 20 0 7\n");
+    assert_eq!(in_root("\"$0\" refusals <&-").status, 0);
+}
+
 #[test]
 fn an_empty_input_is_a_sheet_of_no_byte() {
     assert_eq!(run(&["report"]).done(2), "refused 1\n");
