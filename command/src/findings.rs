@@ -32,6 +32,10 @@ pub fn of(sheet: &[u8]) -> Answer<Findings> {
         (Err(one), Err(other)) if one == other => return Ok(Err(one)),
         _ => return Err(disagreement("reading and analysing")),
     };
+    // the fields that are put into words are the sheet's
+    if library::write(set.policy, &set.tasks)?.as_deref() != Ok(sheet) {
+        return Err(disagreement("reading and writing"));
+    }
     let verdict = analysis.verdict;
     let ordered = parsed(&report, &set, &analysis).ok_or_else(|| disagreement("the report and the analysis"))?;
     let mut findings = Findings { set, verdict, ordered };

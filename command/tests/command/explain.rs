@@ -113,8 +113,26 @@ fn words_agree(text: &str, set: &Set, analysis: &Analysis, total: u64) {
         .collect();
     let (sum, terms) = terms.split_last().expect("a sum");
     assert_eq!(terms.iter().map(|term| term.0).sum::<u64>(), total);
+    assert!(terms.iter().filter(|term| term.1.starts_with("higher task ")).all(|&(work, words)| work_in(words) == work), "{text}");
     let excess = total - u64::from(deadline);
     let ticks = if excess == 1 { "tick" } else { "ticks" };
     assert_eq!((sum.0, sum.1), (total, format!("in all, {excess} {ticks} above the deadline {deadline}").as_str()));
     assert_eq!(text.matches("  does not pass: ").count(), analysis.answers.iter().filter(|answer| answer.times.is_none()).count());
+}
+
+/// The work that the words of a higher task add up to.
+fn work_in(words: &str) -> u64 {
+    let number = |word: &str| word.parse::<u64>().expect("a number");
+    if let Some((jobs, work)) = words.split_once(", each with work ") {
+        return number(jobs.split(' ').nth(3).expect("jobs")) * number(work);
+    }
+    let (_, sum) = words.split_once(", going round: ").expect("frames");
+    let (rounds, rest) = match sum.split_once(" of ") {
+        Some((count, after)) => {
+            let (round, rest) = after.split_once(", then ").unwrap_or((after, ""));
+            (number(count.split(' ').next().expect("rounds")) * number(round), rest)
+        }
+        None => (0, sum),
+    };
+    rounds + rest.split(" + ").filter(|word| !word.is_empty()).map(number).sum::<u64>()
 }
