@@ -91,7 +91,7 @@ Every verdict, time, refusal and sheet comes from the proved library; the words 
 const CHECK: &str = "Prints one line for each FILE and then the totals:
   f.sheet: holds, 2 tasks
   g.sheet: missed, 2 tasks: task 0 misses, blocker 1
-  i.sheet: refused 11 (task 0): a task's frames are not accumulatively monotonic
+  i.sheet: refused 11 (task 0): not accumulatively monotonic
   3 sheets: 1 holds, 1 missed, 1 refused
 A file that cannot be read has a message on standard error instead and counts as `not read`; the others are still checked.
 A name with a space, a quote or a character that does not print stands in quotes, with escapes.
@@ -158,6 +158,6 @@ Exit status: 0 written, 2 the set is refused, 3 the text is no table, not read o
 ";
 
 const REFUSALS: &str =
-    "Prints a line for each number. Of several reasons the first decides: 1, 2, 3, 4, 5 for the header, 6; then task by task 7 and 8;
+    "Prints a line for each number; 12 is said to C programs only. Of several reasons the first decides: 1, 2, 3, 4, 5 for the header, 6; then task by task 7 and 8;
 then 8 and 5 for what follows the records; then task by task 9, 10, 11.
 ";

@@ -2,26 +2,26 @@
 use crate::library::{Refusal, Verdict};
 use crate::set::policy_name;
 
-/// What each refusal number means, from 1 on.
+/// What each refusal number says, from 1 on, in the words of `burrbeech_refusal_words` of the header.
 const REFUSALS: [&str; 12] = [
-    "the length is not 15 to 452 bytes",
-    "the check word is wrong",
-    "the version is not 1",
-    "the policy is not 0, 1 or 2",
-    "a spare or fill bit is set",
-    "the task count is not 1 to 16",
-    "a frame count is not 1 to 8",
-    "the records run past the check word, or 8 or more bits are left after the last",
-    "a task is out of range or not well formed",
-    "a lock is above its task's largest frame",
-    "a task's frames are not accumulatively monotonic",
-    "the lent room is too small (said to C programs only)",
+    "shorter than 15 or longer than 452 bytes",
+    "check word wrong",
+    "version not 1",
+    "policy not 0, 1 or 2",
+    "a spare or fill bit set",
+    "task count 0 or over 16",
+    "frame count 0 or over 8",
+    "records run past the check word, or 8 or more bits remain after the last",
+    "a task out of range or not well formed",
+    "lock above the largest frame",
+    "not accumulatively monotonic",
+    "lent room too small",
 ];
 
 /// The short words for a refusal's number.
 pub fn short(number: u32) -> &'static str {
     let slot = (number as usize).checked_sub(1);
-    slot.and_then(|slot| REFUSALS.get(slot)).copied().unwrap_or("a refusal without words")
+    slot.and_then(|slot| REFUSALS.get(slot)).copied().unwrap_or("a refusal that this version does not know")
 }
 
 /// A line for each number.

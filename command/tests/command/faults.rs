@@ -52,8 +52,8 @@ fn headers() {
 fn records() {
     assert_eq!(fault(|d| d.tasks[1].frame_count = 9), "frame count 9: 1 to 8 are allowed");
     assert_eq!(fault(|d| d.tasks[0].frame_count = 0), "frame count 0: 1 to 8 are allowed");
-    assert_eq!(fault(|d| d.count = 3), "task 2: the record runs past the check word: its fixed part needs 64 bits, 0 are there");
-    assert_eq!(fault(|d| d.tasks[1].frame_count = 2), "task 1: its 2 frames run past the check word: they need 40 bits, 20 are there");
+    assert_eq!(fault(|d| d.count = 3), "task 2: the record runs past the check word: 64 bits for its fixed part, 0 are there");
+    assert_eq!(fault(|d| d.tasks[1].frame_count = 2), "task 1: the record runs past the check word: 40 bits for 2 frames, 20 are there");
     assert_eq!(fault(|d| d.count = 1), "84 bits are left after the last record: fewer than 8 are allowed");
     assert_eq!(fault(|d| d.surplus = vec![0]), "8 bits are left after the last record: fewer than 8 are allowed");
     let one = |fill| {
@@ -81,7 +81,7 @@ fn the_task_is_said_in_words() {
     let mut draft = draft();
     draft.tasks[1].deadline = 21;
     let ran = run_with(&["explain"], &draft.bytes());
-    let expected = "-: refused 9 (task 1): a task is out of range or not well formed\ntask 1: deadline 21 is above the period 20\n";
+    let expected = "-: refused 9 (task 1): a task out of range or not well formed\ntask 1: deadline 21 is above the period 20\n";
     assert_eq!(ran.done(2), expected);
     let shown = run_with(&["show"], &draft.bytes());
     assert!(shown.done(2).contains("\n1         20        21     3  5   # <== deadline 21 is above the period 20\n"), "{}", shown.text());

@@ -22,7 +22,7 @@ sheets/e.sheet: holds, 2 tasks
 sheets/f.sheet: holds, 2 tasks
 sheets/g.sheet: missed, 2 tasks: task 0 misses, blocker 1
 sheets/h.sheet: holds, 2 tasks
-sheets/i.sheet: refused 11 (task 0): a task's frames are not accumulatively monotonic
+sheets/i.sheet: refused 11 (task 0): not accumulatively monotonic
 sheets/j.sheet: holds, 1 task
 sheets/k.sheet: holds, 2 tasks
 sheets/l1.sheet: holds, 2 tasks
@@ -144,7 +144,7 @@ fn the_table_word_for_word() {
     assert_eq!(run(&["show", &shipped_one("f")]).done(0), TABLE);
 }
 
-const REFUSED: &str = "refused 11 (task 0): a task's frames are not accumulatively monotonic
+const REFUSED: &str = "refused 11 (task 0): not accumulatively monotonic
 # What can be read of the refused sheet, the fault marked with <==. Times are ticks; tasks and frames count from 0.
 # length 20 bytes
 # check word B05E
