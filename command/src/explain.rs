@@ -1,5 +1,5 @@
 //! `explain`: a sheet's answer in words.
-use crate::check::{refusal_line, status_of_verdict, unread_object};
+use crate::answers::{refusal_line, status_of_verdict, unread};
 use crate::demand::{self, Demand, Jobs};
 use crate::faults::{self, Fault};
 use crate::findings::{self, Finding, Findings};
@@ -28,15 +28,6 @@ pub fn run(json: bool, name: &Name, output: &mut Output) -> Result<Status, Troub
     };
     output.put(text.as_bytes())?;
     Ok(status)
-}
-
-/// With JSON there is an object for a sheet that could not be read, too.
-pub fn unread(json: bool, name: &Name, trouble: Trouble, output: &mut Output) -> Result<Status, Trouble> {
-    if json {
-        output.put(unread_object(name, &trouble).as_bytes())?;
-        output.finish()?;
-    }
-    Err(trouble)
 }
 
 fn refused(name: &Name, refusal: Refusal, fault: &Fault) -> String {

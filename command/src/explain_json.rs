@@ -1,5 +1,5 @@
 //! `explain --json`: the object of `check`, with the set, the times and the terms of the demand.
-use crate::check::{refusal_object, verdict_object};
+use crate::answers::{refusal_object, verdict_object};
 use crate::demand::Demand;
 use crate::explain::{deadline_demand, slack};
 use crate::faults::Fault;

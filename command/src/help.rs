@@ -46,7 +46,7 @@ impl Verb {
             Verb::Report => "the report in figures: verdict, order, blocking, times",
             Verb::Explain => "why a sheet holds, misses or is refused, in words",
             Verb::Show => "the set of a sheet as a text table",
-            Verb::Compose => "a sheet from such a table",
+            Verb::Compose => "a sheet from a text table",
             Verb::Refusals => "the numbers of refusals in words",
         }
     }
@@ -158,6 +158,6 @@ Exit status: 0 written, 2 the set is refused, 3 the text is no table, not read o
 ";
 
 const REFUSALS: &str =
-    "Prints a line for each number; 12 is said to C programs only. Of several reasons the first decides: 1, 2, 3, 4, 5 for the header, 6; then task by task 7 and 8;
-then 8 and 5 for what follows the records; then task by task 9, 10, 11.
+    "Prints a line for each number. Of several reasons the first decides: 1, 2, 3, 4, 5 for the header, 6; then task by task 7 and 8;
+then 8 and 5 for what follows the records; then task by task 9, 10, 11. 12 is said to C programs only.
 ";

@@ -1,6 +1,7 @@
 //! `burrbeech`, the command: it moves files, words and exit codes. Every verdict, every time, every refusal and every sheet comes from the
 //! proved library; what is added in words is checked against its answers where it can be.
 #![deny(unsafe_code)]
+mod answers;
 mod arguments;
 mod check;
 mod compose;

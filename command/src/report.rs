@@ -1,5 +1,5 @@
 //! `report`: the library's report, byte for byte.
-use crate::check::status_of;
+use crate::answers::status_of;
 use crate::findings::first_line;
 use crate::names::Name;
 use crate::output::Output;

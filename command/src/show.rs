@@ -1,5 +1,5 @@
 //! `show`: a sheet as the table that `compose` reads.
-use crate::explain::unread;
+use crate::answers::unread;
 use crate::faults::{self, Fault, Place};
 use crate::library::{self, Refusal};
 use crate::names::Name;

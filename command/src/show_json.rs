@@ -1,5 +1,5 @@
 //! `show --json`: the set of a sheet, or the fields of a refused one as far as they can be read.
-use crate::check::refusal_object;
+use crate::answers::refusal_object;
 use crate::faults::Fault;
 use crate::json::{array, Object};
 use crate::library::Refusal;
