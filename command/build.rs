@@ -4,7 +4,8 @@ use std::path::Path;
 const VERSION: &str = "#define BURRBEECH_VERSION \"";
 
 fn main() {
-    let root = Path::new(env!("CARGO_MANIFEST_DIR")).parent().expect("the repository's root");
+    let here = std::env::var("CARGO_MANIFEST_DIR").expect("cargo says where the package is");
+    let root = Path::new(&here).parent().expect("the repository's root");
     let (header, archive) = (root.join("include/burrbeech.h"), root.join("target/lib/libburrbeech.a"));
     println!("cargo:rerun-if-changed={}", header.display());
     println!("cargo:rerun-if-changed={}", archive.display());
