@@ -101,7 +101,7 @@ A name with a space, a quote or a character that does not print stands in quotes
   {\"file\":NAME,\"verdict\":\"holds\",\"tasks\":COUNT}
   {\"file\":NAME,\"verdict\":\"missed\",\"tasks\":COUNT,\"task\":TASK,\"blocker\":TASK or null}
   {\"file\":NAME,\"verdict\":\"refused\",\"refusal\":NUMBER,\"task\":TASK or null,\"words\":TEXT}
-  {\"file\":NAME,\"verdict\":null,\"error\":TEXT}        (not read; the message goes to standard error, too)
+  {\"file\":NAME,\"verdict\":null,\"error\":TEXT}        (not read, with explain and show too; standard error has the message as well)
 
 Exit status: 0 all hold, 1 some missed, 2 some refused, 3 some not read, or usage; the worst decides.
 ";
