@@ -1,10 +1,11 @@
 //! `check`: a line for each sheet, totals last.
 use crate::answers::{line, object, status_of, unread_object};
 use crate::arguments::CheckOptions;
+use crate::input::{next_sheet, Pipes};
 use crate::names::Name;
 use crate::output::{complain, Output};
 use crate::status::{Status, Trouble};
-use crate::{input, library, words};
+use crate::{library, words};
 
 /// How many sheets ended how.
 #[derive(Default)]
@@ -17,9 +18,9 @@ struct Totals {
 
 pub fn run(options: &CheckOptions, output: &mut Output) -> Result<Status, Trouble> {
     let mut totals = Totals::default();
-    let mut worst = Status::Done;
+    let (mut worst, mut pipes) = (Status::Done, Pipes::default());
     for name in &options.sources {
-        let status = one(name, options, output).map_err(|trouble| trouble.about(name))?;
+        let status = one(name, options, &mut pipes, output).map_err(|trouble| trouble.about(name))?;
         totals.count(status);
         worst = worst.max(status);
     }
@@ -30,8 +31,8 @@ pub fn run(options: &CheckOptions, output: &mut Output) -> Result<Status, Troubl
 }
 
 /// The line of one sheet; one that cannot be read has a complaint instead, and the others are still checked.
-fn one(name: &Name, options: &CheckOptions, output: &mut Output) -> Result<Status, Trouble> {
-    let bytes = match input::sheet(name) {
+fn one(name: &Name, options: &CheckOptions, pipes: &mut Pipes, output: &mut Output) -> Result<Status, Trouble> {
+    let bytes = match next_sheet(name, pipes) {
         Ok(bytes) => bytes,
         Err(trouble) => return unread(name, &trouble, options.json, output),
     };

@@ -6,16 +6,48 @@ use crate::streams;
 use std::fs::File;
 use std::io::{self, Read};
 use std::os::fd::AsFd;
+use std::os::unix::fs::{FileTypeExt, MetadataExt};
+
+/// The pipes that were read, by device and number: a second reading would find one empty.
+#[derive(Default)]
+pub struct Pipes(Vec<(u64, u64)>);
+
+impl Pipes {
+    /// Notes a pipe before it is read; it must be the first time.
+    fn note(&mut self, file: &File) -> io::Result<()> {
+        let known = file.metadata()?;
+        let pipe = (known.dev(), known.ino());
+        if !known.file_type().is_fifo() && !known.file_type().is_socket() {
+            return Ok(());
+        }
+        if self.0.contains(&pipe) {
+            return Err(io::Error::other("this pipe was read already, and nothing is left of it"));
+        }
+        self.0.push(pipe);
+        Ok(())
+    }
+}
 
 /// The bytes of a sheet: one past the greatest sheet is enough to know that it is too long.
 pub fn sheet(name: &Name) -> Result<Vec<u8>, Trouble> {
-    at_most(GREATEST_SHEET + 1, name)
+    next_sheet(name, &mut Pipes::default())
 }
 
-/// The first bytes of a file, so many at most; a read that fails is an error, never the end.
-pub fn at_most(most: usize, name: &Name) -> Result<Vec<u8>, Trouble> {
-    let mut bytes = Vec::with_capacity(most.min(4_096));
+/// The bytes of one sheet of several.
+pub fn next_sheet(name: &Name, pipes: &mut Pipes) -> Result<Vec<u8>, Trouble> {
     let file = open(name)?;
+    pipes.note(&file).map_err(|error| Trouble::of_file(name, &error))?;
+    read(file, GREATEST_SHEET + 1, name)
+}
+
+/// The first bytes of a file, so many at most.
+pub fn at_most(most: usize, name: &Name) -> Result<Vec<u8>, Trouble> {
+    read(open(name)?, most, name)
+}
+
+/// A read that fails is an error, never the end.
+fn read(file: File, most: usize, name: &Name) -> Result<Vec<u8>, Trouble> {
+    let mut bytes = Vec::with_capacity(most.min(4_096));
     file.take(most as u64).read_to_end(&mut bytes).map_err(|error| Trouble::of_file(name, &error))?;
     Ok(bytes)
 }

@@ -10,4 +10,5 @@ mod running;
 mod shipped;
 mod speed;
 mod streams;
+mod terminal;
 mod whole_files;

@@ -56,6 +56,16 @@ fn the_other_files_are_still_checked() {
     }
 }
 
+/// Under another name standard input could be read twice, and would be empty the second time.
+#[test]
+fn a_pipe_is_read_once() {
+    let ran = in_root("cat sheets/f.sheet | \"$0\" check - /dev/stdin");
+    assert_eq!(ran.text(), "-: holds, 2 tasks\n2 sheets: 1 holds, 0 missed, 0 refused, 1 not read\n");
+    assert_eq!((ran.status, ran.err.as_str()), (3, "burrbeech: /dev/stdin: this pipe was read already, and nothing is left of it\n"));
+    let ran = in_root("cat sheets/f.sheet | \"$0\" check /dev/stdin sheets/g.sheet sheets/g.sheet");
+    assert_eq!((ran.status, ran.err.as_str()), (1, ""));
+}
+
 /// A closed input is no matter where it is not read.
 #[test]
 fn a_closed_input_beside_a_file() {
