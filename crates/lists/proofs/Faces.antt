@@ -35,7 +35,6 @@ use Rattle.analysis.specs.Answers.{decision, refused-decision, analysing, set-a
 use Rattle.lists.specs.Lists.{gathered-of, scattered-of}
 use Rattle.lists.specs.Faces.{reading-list, list-read, list-filled, writing-list, list-written, list-left, analysing-list, list-analysed, list-times}
 use Rattle.lists.specs.Inside.Parts.{read-answer}
-use Rattle.lists.specs.declared.ListRead.the-variants.{Set}
 use Rattle.lists.specs.declared.ListRead.the-variants.{TurnedAway as not-read}
 use Rattle.lists.proofs.Laws.{reading-refused, list-short, list-long, scattered-short, scattered-all}
 

@@ -19,7 +19,6 @@ use Rattle.analysis.specs.Answers.{blocker-code, code}
 use Rattle.analysis.specs.declared.Outcome.{Outcome}
 use Rattle.analysis.specs.declared.Outcome.the-variants.{Holds, Missed}
 use Rattle.analysis.specs.declared.Outcome.the-variants.{Refused as not-analysed}
-use Rattle.analysis.specs.declared.Decision.{Decision}
 use Rattle.lists.specs.declared.ListRead.{ListRead}
 use Rattle.lists.specs.declared.ListRead.the-variants.{Set}
 use Rattle.lists.specs.declared.ListRead.the-variants.{TurnedAway as not-read}

@@ -42,7 +42,7 @@ use Rattle.analysis.specs.Answers.{refused-decision}
 use Rattle.analysis.specs.declared.Decision.{Decision}
 use Rattle.analysis.proofs.Numbering.{number-in, number-back, place-back}
 use Rattle.analysis.proofs.Promises.{place-below, task-of-number}
-use Rattle.lists.specs.Faces.{list-read, list-filled, list-written, list-left, list-analysed}
+use Rattle.lists.specs.Faces.{list-read, list-filled, list-written, list-left}
 use Rattle.lists.specs.declared.ListRead.{ListRead}
 use Rattle.lists.specs.declared.ListRead.the-variants.{Set}
 use Rattle.lists.specs.declared.ListRead.the-variants.{TurnedAway as not-read}
