@@ -1,28 +1,65 @@
-/* Burrbeech: task sheets and their analysis, for C. Link libworkbench.a for the sheet entry, liblists.a for the entries on lent records.
+/* Burrbeech: task sheets and their analysis, for C and C++.
  *
- * Every byte string, every list, every number in every field and every size of buffer may be passed. NULL with length 0 is an empty
- * buffer. Buffers of one call must not overlap. A refused call changes no lent memory. */
+ *     cc main.c $(pkg-config --cflags --libs burrbeech)
+ *
+ * A task sheet is 15 to 452 bytes of packed bits with a policy and 1 to 16 tasks. Tasks and frames count from 0, times are ticks.
+ *
+ * What a caller may do. Every byte string, every list, every number in every field and every size of buffer may be passed: what is no
+ * sheet and no set is refused, by a number. NULL with length 0 is an empty buffer; NULL with any other length is not allowed. The buffers of
+ * one call must not overlap. Bytes may stand anywhere; records and 32-bit numbers are aligned as their C types are (4 bytes).
+ *
+ * What a call does. A refused call changes no lent memory, and memory past what an answer needs keeps its content. An entry keeps no state,
+ * allocates nothing, sets no errno and raises no signal: any number of threads may be in any entries at a time, each with its own buffers. No
+ * call takes more than BURRBEECH_STACK_MAX bytes of stack. Most calls take microseconds; the costliest sheet found takes a tenth of a second.
+ *
+ * The libraries are for x86-64 and the System V calling convention. */
 #ifndef BURRBEECH_H
 #define BURRBEECH_H
 
+#include <stdbool.h>
 #include <stddef.h>
 #include <stdint.h>
 
-#ifdef __cplusplus
-extern "C" {
-#endif
+/* The version, stated here and nowhere else. Until 1.0.0 a new minor version may change the entries. */
+#define BURRBEECH_VERSION_MAJOR 0
+#define BURRBEECH_VERSION_MINOR 1
+#define BURRBEECH_VERSION_PATCH 0
+#define BURRBEECH_VERSION "0.1.0"
 
-/* ---- libworkbench.a */
+/* Limits. */
+#define BURRBEECH_SHEET_MIN 15      /* bytes of the shortest sheet */
+#define BURRBEECH_SHEET_MAX 452     /* bytes of the longest sheet; of a longer file read one byte more, and it is refused for its length */
+#define BURRBEECH_TASKS_MAX 16      /* tasks of a set */
+#define BURRBEECH_FRAMES_MAX 8      /* frames of a task, and slots for its times */
+#define BURRBEECH_TICKS_MAX 1048575 /* the longest period, deadline, lock or frame time */
+#define BURRBEECH_TIMES_MAX 128     /* numbers that hold the times of every set: 8 for each task */
+#define BURRBEECH_TIMES_BYTES 512   /* bytes that hold the times of every set: 4 for each number */
+#define BURRBEECH_REPORT_MAX 2048   /* bytes that hold every report */
+#define BURRBEECH_NO_BLOCKER 16     /* stands for the blocker of a miss that has none */
+#define BURRBEECH_STACK_MAX 32768   /* bytes of stack that every call is content with */
 
-/* Analyses the sheet of sheet_len bytes and writes the response times to times: for a sheet of n tasks the first 32 * n bytes hold eight
- * times for each task in task-number order, frame by frame, four bytes each, high byte first. A slot without a frame holds 0, and so do
- * all eight slots of a task that does not pass. Bytes after the first 32 * n stay as they were.
- *
- * Returns 0 if the set holds; 1 to 12 for a refusal, by its number (12: times_len is below 32 * n); 100 + 17 * p + b if task p misses with
- * blocker b (16 for none), p being the first task in priority order that does not pass. */
-uint32_t burrbeech_check_sheet(const uint8_t *sheet, size_t sheet_len, uint8_t *times, size_t times_len);
+/* What is turned away, by number. Numbers up to 99 are kept for refusals. */
+enum burrbeech_refusal_number {
+    BURRBEECH_REFUSAL_LENGTH = 1,
+    BURRBEECH_REFUSAL_CHECK_WORD = 2,
+    BURRBEECH_REFUSAL_VERSION = 3,
+    BURRBEECH_REFUSAL_POLICY = 4,
+    BURRBEECH_REFUSAL_BITS = 5,
+    BURRBEECH_REFUSAL_TASK_COUNT = 6,
+    BURRBEECH_REFUSAL_FRAME_COUNT = 7, /* names a task */
+    BURRBEECH_REFUSAL_RECORDS = 8,
+    BURRBEECH_REFUSAL_ILL_FORMED = 9,     /* names a task */
+    BURRBEECH_REFUSAL_LOCK = 10,          /* names a task */
+    BURRBEECH_REFUSAL_NOT_MONOTONIC = 11, /* names a task */
+    BURRBEECH_REFUSAL_ROOM = 12
+};
 
-/* ---- liblists.a */
+/* What puts the tasks in priority order; where keys are equal, the lower task number is higher. */
+enum burrbeech_policy_number {
+    BURRBEECH_POLICY_LISTED = 0,            /* task 0 is highest */
+    BURRBEECH_POLICY_RATE_MONOTONIC = 1,    /* the shorter period is higher */
+    BURRBEECH_POLICY_DEADLINE_MONOTONIC = 2 /* the shorter deadline is higher */
+};
 
 /* A task record. Slots of frames past frame_count are not read, and are 0 when a record is filled. */
 struct burrbeech_task {
@@ -30,24 +67,225 @@ struct burrbeech_task {
     uint32_t deadline;
     uint32_t lock;
     uint32_t frame_count;
-    uint32_t frames[8];
+    uint32_t frames[BURRBEECH_FRAMES_MAX];
 };
 
-/* The answers of the three entries below, in one number: answer % 32 is 0 for success or the number of the refusal, 1 to 12; answer / 32 is
- * then the task number for refusals 7, 9, 10 and 11, and 0 for the others. What answer / 32 is on success stands with each entry. */
+/* The record as the libraries were built with it, on a machine that they were built for. */
+#if defined(__cplusplus) && __cplusplus >= 201103L
+#define BURRBEECH_FACT(name, fact) static_assert(fact, #name)
+#elif defined(__STDC_VERSION__) && __STDC_VERSION__ >= 201112L
+#define BURRBEECH_FACT(name, fact) _Static_assert(fact, #name)
+#else
+#define BURRBEECH_FACT(name, fact) typedef char name[(fact) ? 1 : -1]
+#endif
+BURRBEECH_FACT(burrbeech_task_has_48_bytes, sizeof(struct burrbeech_task) == 48);
+BURRBEECH_FACT(burrbeech_size_has_8_bytes, sizeof(size_t) == 8);
+#undef BURRBEECH_FACT
 
-/* Reads a sheet into list. On success the first n records hold the set and answer / 32 is policy + 4 * n; records after the first n stay as
- * they were. Refusal 12: the list has fewer than n records. */
-uint32_t burrbeech_read_list(const uint8_t *sheet, size_t sheet_len, struct burrbeech_task *list, size_t list_len);
+/* Marks an entry: a function of the library. The compiler says so where an answer is dropped. */
+#if defined(__GNUC__)
+#define BURRBEECH_ENTRY __attribute__((warn_unused_result))
+#else
+#define BURRBEECH_ENTRY
+#endif
 
-/* Writes the set of all list_len records to sheet. On success answer / 32 is the number of bytes written; bytes after them stay as they
- * were. Refusal 12: sheet_len is below the sheet's length. */
-uint32_t burrbeech_write_list(uint32_t policy, const struct burrbeech_task *list, size_t list_len, uint8_t *sheet, size_t sheet_len);
+#ifdef __cplusplus
+extern "C" {
+#endif
 
-/* Analyses the set of all n = list_len records and writes the response times to the first 8 * n numbers of times, eight for each task;
- * numbers after them stay as they were. On success answer / 32 is 0 if the set holds and 100 + 17 * p + b if task p misses with blocker b
- * (16 for none). Refusal 12: times_len is below 8 * n. */
-uint32_t burrbeech_analyse_list(uint32_t policy, const struct burrbeech_task *list, size_t list_len, uint32_t *times, size_t times_len);
+/* ---- The entries ------------------------------------------------------------------------------------------------------------------ */
+
+/* Analyses the sheet of sheet_len bytes and writes the response times as bytes: for a sheet of n tasks the first 32 * n bytes of times hold
+ * eight times for each task in task-number order, frame by frame, four bytes each, high byte first (burrbeech_check_time takes one). A slot
+ * without a frame holds 0, and so do all eight slots of a task that does not pass.
+ *
+ * Answers 0 if the set holds; 1 to 12 for a refusal, by its number (12: times_len is below 32 * n); 100 + 17 * p + b if task p misses with
+ * blocker b (16 for none), p being the first task in priority order that does not pass. The burrbeech_check_ functions below take the answer
+ * apart. burrbeech_analyse_sheet says more: the task count, and the task that a refusal names. */
+BURRBEECH_ENTRY uint32_t burrbeech_check_sheet(const uint8_t *sheet, size_t sheet_len, uint8_t *times, size_t times_len);
+
+/* The entries below answer one number each: answer & 0xFF is 0, or the number of the refusal, 1 to 99; answer >> 8 is the detail. The detail
+ * of refusals 7, 9, 10 and 11 is the task in bits 0 to 7, that of the others is 0. The detail of success stands with each entry. The
+ * functions further down take answers apart, so that no caller has to. */
+
+/* Reads a sheet of n tasks into the first n records of list. The detail is n in bits 0 to 7 and the policy in bits 8 to 15; the bits above
+ * are 0 and kept for later. Refuses as the sheet says, last 12: list_len is below n. */
+BURRBEECH_ENTRY uint64_t burrbeech_read_list(const uint8_t *sheet, size_t sheet_len, struct burrbeech_task *list, size_t list_len);
+
+/* Writes the set of all list_len records as a sheet, whole, with its check word. The detail is the number of bytes written. Refuses with 4, 6,
+ * 7, 9, 10 and 11 as the list says, last 12: sheet_len is below the sheet's length. */
+BURRBEECH_ENTRY uint64_t burrbeech_write_list(uint32_t policy, const struct burrbeech_task *list, size_t list_len, uint8_t *sheet, size_t sheet_len);
+
+/* Analyses the set of all n = list_len records and writes the response times to the first 8 * n numbers of times: eight for each task in
+ * task-number order, frame by frame; 0 in a slot without a frame, and in all eight slots of a task that does not pass. The detail is the
+ * outcome in bits 0 to 15, 0 if the set holds and 1 + 17 * p + b if task p misses with blocker b (16 for none), and n in bits 16 to 23.
+ * Refuses with 4, 6, 7, 9, 10 and 11 as the list says, last 12: times_len is below 8 * n. */
+BURRBEECH_ENTRY uint64_t burrbeech_analyse_list(uint32_t policy, const struct burrbeech_task *list, size_t list_len, uint32_t *times, size_t times_len);
+
+/* Analyses the set of a sheet: answer and times as burrbeech_analyse_list has them. Refuses as the sheet says, last 12: times_len is below
+ * 8 * n. */
+BURRBEECH_ENTRY uint64_t burrbeech_analyse_sheet(const uint8_t *sheet, size_t sheet_len, uint32_t *times, size_t times_len);
+
+/* Writes the report on a sheet to text: ASCII lines, each with its line feed, and no 0 byte behind them. The detail is their length, at most
+ * BURRBEECH_REPORT_MAX. A refused sheet has a report too ("refused" and the number), so that the one refusal is 12: text_len is below the
+ * length. */
+BURRBEECH_ENTRY uint64_t burrbeech_report(const uint8_t *sheet, size_t sheet_len, uint8_t *text, size_t text_len);
+
+/* ---- Taking answers apart: every entry but burrbeech_check_sheet --------------------------------------------------------------------- */
+
+/* The number of the refusal, 0 for success. */
+static inline uint32_t burrbeech_refusal(uint64_t answer)
+{
+    return (uint32_t)(answer & 0xFF);
+}
+
+/* What the entry says beside success or the refusal's number. */
+static inline uint64_t burrbeech_detail(uint64_t answer)
+{
+    return answer >> 8;
+}
+
+/* Whether a refusal of this number names a task. */
+static inline bool burrbeech_refusal_names_task(uint32_t refusal)
+{
+    return refusal == BURRBEECH_REFUSAL_FRAME_COUNT || refusal == BURRBEECH_REFUSAL_ILL_FORMED || refusal == BURRBEECH_REFUSAL_LOCK ||
+           refusal == BURRBEECH_REFUSAL_NOT_MONOTONIC;
+}
+
+/* The task that a refusal names; 0 where it names none. */
+static inline size_t burrbeech_refusal_task(uint64_t answer)
+{
+    return burrbeech_refusal_names_task(burrbeech_refusal(answer)) ? (size_t)(burrbeech_detail(answer) & 0xFF) : 0;
+}
+
+/* What a refusal of this number says, in a few words. */
+static inline const char *burrbeech_refusal_words(uint32_t refusal)
+{
+    switch (refusal) {
+    case 0: return "not refused";
+    case BURRBEECH_REFUSAL_LENGTH: return "shorter than 15 or longer than 452 bytes";
+    case BURRBEECH_REFUSAL_CHECK_WORD: return "check word wrong";
+    case BURRBEECH_REFUSAL_VERSION: return "version not 1";
+    case BURRBEECH_REFUSAL_POLICY: return "policy not 0, 1 or 2";
+    case BURRBEECH_REFUSAL_BITS: return "a spare or fill bit set";
+    case BURRBEECH_REFUSAL_TASK_COUNT: return "task count 0 or over 16";
+    case BURRBEECH_REFUSAL_FRAME_COUNT: return "frame count 0 or over 8";
+    case BURRBEECH_REFUSAL_RECORDS: return "records run past the check word, or 8 or more bits remain after the last";
+    case BURRBEECH_REFUSAL_ILL_FORMED: return "a task out of range or not well formed";
+    case BURRBEECH_REFUSAL_LOCK: return "lock above the largest frame";
+    case BURRBEECH_REFUSAL_NOT_MONOTONIC: return "not accumulatively monotonic";
+    case BURRBEECH_REFUSAL_ROOM: return "lent room too small";
+    default: return "a refusal that this version does not know";
+    }
+}
+
+/* burrbeech_read_list: the task count; 0 for a refusal. */
+static inline size_t burrbeech_read_tasks(uint64_t answer)
+{
+    return burrbeech_refusal(answer) == 0 ? (size_t)(burrbeech_detail(answer) & 0xFF) : 0;
+}
+
+/* burrbeech_read_list: the policy; 0 for a refusal. */
+static inline uint32_t burrbeech_read_policy(uint64_t answer)
+{
+    return burrbeech_refusal(answer) == 0 ? (uint32_t)(burrbeech_detail(answer) >> 8 & 0xFF) : 0;
+}
+
+/* burrbeech_write_list: the bytes written; 0 for a refusal. */
+static inline size_t burrbeech_written_bytes(uint64_t answer)
+{
+    return burrbeech_refusal(answer) == 0 ? (size_t)burrbeech_detail(answer) : 0;
+}
+
+/* burrbeech_report: the bytes of the text; 0 for a refusal. */
+static inline size_t burrbeech_report_length(uint64_t answer)
+{
+    return burrbeech_refusal(answer) == 0 ? (size_t)burrbeech_detail(answer) : 0;
+}
+
+/* burrbeech_analyse_list and burrbeech_analyse_sheet: the task count; 0 for a refusal. */
+static inline size_t burrbeech_analysed_tasks(uint64_t answer)
+{
+    return burrbeech_refusal(answer) == 0 ? (size_t)(burrbeech_detail(answer) >> 16 & 0xFF) : 0;
+}
+
+/* The outcome of an analysis: 1 + 17 * p + b for a miss, 0 if the set holds; also 0 for a refusal. */
+static inline size_t burrbeech_analysed_outcome(uint64_t answer)
+{
+    return burrbeech_refusal(answer) == 0 ? (size_t)(burrbeech_detail(answer) & 0xFFFF) : 0;
+}
+
+/* Whether the set was analysed and holds. */
+static inline bool burrbeech_analysed_holds(uint64_t answer)
+{
+    return burrbeech_refusal(answer) == 0 && burrbeech_analysed_outcome(answer) == 0;
+}
+
+/* Whether the set was analysed and misses. */
+static inline bool burrbeech_analysed_missed(uint64_t answer)
+{
+    return burrbeech_analysed_outcome(answer) != 0;
+}
+
+/* The first task in priority order that does not pass; 0 where there is no miss. */
+static inline size_t burrbeech_analysed_missed_task(uint64_t answer)
+{
+    return burrbeech_analysed_missed(answer) ? (burrbeech_analysed_outcome(answer) - 1) / (BURRBEECH_NO_BLOCKER + 1) : 0;
+}
+
+/* The blocker of that task, or BURRBEECH_NO_BLOCKER; this one also where there is no miss. */
+static inline size_t burrbeech_analysed_missed_blocker(uint64_t answer)
+{
+    return burrbeech_analysed_missed(answer) ? (burrbeech_analysed_outcome(answer) - 1) % (BURRBEECH_NO_BLOCKER + 1) : BURRBEECH_NO_BLOCKER;
+}
+
+/* The response time of a frame, in the numbers that an analysis left; 0 where there is no such frame or the task does not pass. */
+static inline uint32_t burrbeech_analysed_time(const uint32_t *times, size_t task, size_t frame)
+{
+    return times[BURRBEECH_FRAMES_MAX * task + frame];
+}
+
+/* ---- Taking the answer of burrbeech_check_sheet apart --------------------------------------------------------------------------------- */
+
+/* Misses are numbered from here on. */
+#define BURRBEECH_CHECK_MISSES 100
+
+/* Whether the set holds. */
+static inline bool burrbeech_check_holds(uint32_t answer)
+{
+    return answer == 0;
+}
+
+/* The number of the refusal, 0 where nothing was refused. */
+static inline uint32_t burrbeech_check_refusal(uint32_t answer)
+{
+    return answer < BURRBEECH_CHECK_MISSES ? answer : 0;
+}
+
+/* Whether the set misses. */
+static inline bool burrbeech_check_missed(uint32_t answer)
+{
+    return answer >= BURRBEECH_CHECK_MISSES;
+}
+
+/* The first task in priority order that does not pass; 0 where there is no miss. */
+static inline size_t burrbeech_check_missed_task(uint32_t answer)
+{
+    return burrbeech_check_missed(answer) ? (answer - BURRBEECH_CHECK_MISSES) / (BURRBEECH_NO_BLOCKER + 1) : 0;
+}
+
+/* The blocker of that task, or BURRBEECH_NO_BLOCKER; this one also where there is no miss. */
+static inline size_t burrbeech_check_missed_blocker(uint32_t answer)
+{
+    return burrbeech_check_missed(answer) ? (answer - BURRBEECH_CHECK_MISSES) % (BURRBEECH_NO_BLOCKER + 1) : BURRBEECH_NO_BLOCKER;
+}
+
+/* The response time of a frame, in the bytes that burrbeech_check_sheet left; 0 where there is no such frame or the task does not pass. */
+static inline uint32_t burrbeech_check_time(const uint8_t *times, size_t task, size_t frame)
+{
+    const uint8_t *high = times + 4 * (BURRBEECH_FRAMES_MAX * task + frame);
+    return (uint32_t)high[0] << 24 | (uint32_t)high[1] << 16 | (uint32_t)high[2] << 8 | (uint32_t)high[3];
+}
 
 #ifdef __cplusplus
 }

@@ -1,60 +1,108 @@
-/* The workbench lends its own array of task records: reads a sheet into it, analyses it, writes it back. Tries the entries on case F's
- * sheet, in the folder of the case sheets that is its argument. */
-#include "burrbeech.h"
+/* The entries on lent task records, from C: a workbench reads a sheet into its own array, changes it, analyses it and writes it back. Tries
+ * them on case F, in the folder of the case sheets that is the argument. */
+#include "expect.h"
 
-#include <stdio.h>
-#include <string.h>
+/* Two more than case F has. */
+enum { ROOM = 4 };
 
-static unsigned passed, failed;
+static struct burrbeech_task list[ROOM];
+static uint32_t times[BURRBEECH_TIMES_MAX];
+static uint8_t back[BURRBEECH_SHEET_MAX];
 
-static void expect(const char *what, int good)
+static bool same_record(const struct burrbeech_task *task, uint32_t period, uint32_t deadline, uint32_t lock, uint32_t frame)
 {
-    printf("%s ... %s\n", what, good ? "ok" : "FAILED");
-    good ? passed++ : failed++;
+    struct burrbeech_task expected = {period, deadline, lock, 1, {frame, 0, 0, 0, 0, 0, 0, 0}};
+    return memcmp(task, &expected, sizeof expected) == 0;
 }
 
-static int same_bytes(const void *a, const void *b, size_t n)
+static bool refused(uint64_t answer, uint32_t number, size_t task)
 {
-    return memcmp(a, b, n) == 0;
+    return burrbeech_refusal(answer) == number && burrbeech_refusal_task(answer) == task;
+}
+
+static uint64_t analyse(uint32_t policy, size_t tasks, size_t room)
+{
+    memset(times, BEFORE, sizeof times);
+    return burrbeech_analyse_list(policy, list, tasks, times, room);
+}
+
+static uint64_t write_back(uint32_t policy, size_t tasks, size_t room)
+{
+    memset(back, BEFORE, sizeof back);
+    return burrbeech_write_list(policy, list, tasks, back, room);
+}
+
+/* Leaves F's two records in the list. */
+static void try_read(const struct sheet *f, const struct sheet *i)
+{
+    memset(list, BEFORE, sizeof list);
+    expect("read: a list of one record is too short", burrbeech_read_list(f->bytes, f->len, list, 1) == BURRBEECH_REFUSAL_ROOM && untouched(list, sizeof list));
+    expect("read: no list (NULL, 0) is too short", burrbeech_read_list(f->bytes, f->len, NULL, 0) == BURRBEECH_REFUSAL_ROOM);
+    expect("read: no sheet (NULL, 0) is refused with 1",
+           burrbeech_read_list(NULL, 0, list, ROOM) == BURRBEECH_REFUSAL_LENGTH && untouched(list, sizeof list));
+    expect("read: I is refused with 11, task 0",
+           refused(burrbeech_read_list(i->bytes, i->len, list, ROOM), BURRBEECH_REFUSAL_NOT_MONOTONIC, 0) && untouched(list, sizeof list));
+    uint64_t answer = burrbeech_read_list(f->bytes, f->len, list, ROOM);
+    expect("read: F, two tasks, listed",
+           burrbeech_refusal(answer) == 0 && burrbeech_read_tasks(answer) == 2 && burrbeech_read_policy(answer) == BURRBEECH_POLICY_LISTED);
+    expect("read: its records", same_record(&list[0], 10, 4, 0, 2) && same_record(&list[1], 20, 20, 3, 5));
+    expect("read: surplus records stay", untouched(&list[2], 2 * sizeof *list));
+}
+
+static void try_analyse(void)
+{
+    uint64_t answer = analyse(BURRBEECH_POLICY_LISTED, 2, BURRBEECH_TIMES_MAX);
+    expect("analyse: F holds, two tasks, 4 and 7",
+           burrbeech_analysed_holds(answer) && burrbeech_analysed_tasks(answer) == 2 && burrbeech_analysed_time(times, 0, 0) == 4 &&
+               burrbeech_analysed_time(times, 0, 1) == 0 && burrbeech_analysed_time(times, 1, 0) == 7);
+    expect("analyse: surplus numbers stay", untouched(times + 16, sizeof times - 16 * sizeof *times));
+    expect("analyse: room that just fits", burrbeech_analysed_holds(analyse(BURRBEECH_POLICY_LISTED, 2, 16)));
+    expect("analyse: one number short is refused with 12",
+           analyse(BURRBEECH_POLICY_LISTED, 2, 15) == BURRBEECH_REFUSAL_ROOM && untouched(times, sizeof times));
+    expect("analyse: no record (NULL, 0) is refused with 6", burrbeech_analyse_list(0, NULL, 0, times, BURRBEECH_TIMES_MAX) == BURRBEECH_REFUSAL_TASK_COUNT);
+    expect("analyse: policy 3 is refused with 4", analyse(3, 2, BURRBEECH_TIMES_MAX) == BURRBEECH_REFUSAL_POLICY && untouched(times, sizeof times));
+    list[1].lock = 4;
+    answer = analyse(BURRBEECH_POLICY_LISTED, 2, BURRBEECH_TIMES_MAX);
+    expect("analyse: with a lock of 4 task 0 misses, blocker 1; task 1 has 7",
+           burrbeech_analysed_missed(answer) && burrbeech_analysed_missed_task(answer) == 0 && burrbeech_analysed_missed_blocker(answer) == 1 &&
+               burrbeech_analysed_time(times, 0, 0) == 0 && burrbeech_analysed_time(times, 1, 0) == 7);
+    list[1].lock = 3;
+}
+
+static void try_write(const struct sheet *f)
+{
+    uint64_t answer = write_back(BURRBEECH_POLICY_LISTED, 2, sizeof back);
+    expect("write: the same bytes", burrbeech_written_bytes(answer) == f->len && memcmp(back, f->bytes, f->len) == 0);
+    expect("write: surplus bytes stay", untouched(back + f->len, sizeof back - f->len));
+    expect("write: room that just fits", burrbeech_written_bytes(write_back(BURRBEECH_POLICY_LISTED, 2, f->len)) == f->len);
+    expect("write: one byte short is refused with 12",
+           write_back(BURRBEECH_POLICY_LISTED, 2, f->len - 1) == BURRBEECH_REFUSAL_ROOM && untouched(back, sizeof back));
+    expect("write: no room (NULL, 0) is refused with 12", burrbeech_write_list(0, list, 2, NULL, 0) == BURRBEECH_REFUSAL_ROOM);
+    expect("write: no record (NULL, 0) is refused with 6", burrbeech_write_list(0, NULL, 0, back, sizeof back) == BURRBEECH_REFUSAL_TASK_COUNT);
+}
+
+/* Each refusal that names a task, of task 1; the analysis and the writer refuse alike and change nothing. */
+static void try_task(const char *what, struct burrbeech_task changed, uint32_t number)
+{
+    list[1] = changed;
+    expect(what, refused(analyse(BURRBEECH_POLICY_LISTED, 2, BURRBEECH_TIMES_MAX), number, 1) && untouched(times, sizeof times) &&
+                     refused(write_back(BURRBEECH_POLICY_LISTED, 2, sizeof back), number, 1) && untouched(back, sizeof back));
 }
 
 int main(int argc, char **argv)
 {
-    uint8_t sheet[453], back[453];
-    struct burrbeech_task list[4], surplus;
-    uint32_t times[32];
-    char path[4096];
     if (argc != 2) {
-        fprintf(stderr, "lists SHEETS  tries the list entries on the case sheets\n");
+        fprintf(stderr, "lists SHEETS   tries the list entries on the case sheets\n");
         return 2;
     }
-    snprintf(path, sizeof path, "%s/f.sheet", argv[1]);
-    FILE *file = fopen(path, "rb");
-    if (file == NULL) {
-        perror(path);
-        return 2;
-    }
-    size_t len = fread(sheet, 1, sizeof sheet, file);
-    fclose(file);
-
-    memset(list, 0xA5, sizeof list);
-    memset(&surplus, 0xA5, sizeof surplus);
-    expect("a list of one record is too short", burrbeech_read_list(sheet, len, list, 1) == 12 && same_bytes(&list[0], &surplus, sizeof surplus));
-    expect("F is read: policy 0, two tasks", burrbeech_read_list(sheet, len, list, 4) == 32 * (0 + 4 * 2));
-    expect("its records", list[0].period == 10 && list[0].deadline == 4 && list[0].lock == 0 && list[0].frame_count == 1 && list[0].frames[0] == 2 &&
-                              list[0].frames[1] == 0 && list[1].period == 20 && list[1].lock == 3 && list[1].frames[0] == 5);
-    expect("surplus records stay", same_bytes(&list[2], &surplus, sizeof surplus) && same_bytes(&list[3], &surplus, sizeof surplus));
-
-    memset(times, 0xA5, sizeof times);
-    expect("F holds with 4 and 7", burrbeech_analyse_list(0, list, 2, times, 32) == 0 && times[0] == 4 && times[1] == 0 && times[8] == 7 && times[16] == 0xA5A5A5A5);
-    expect("fifteen numbers are too few", burrbeech_analyse_list(0, list, 2, times, 15) == 12);
-
-    memset(back, 0xA5, sizeof back);
-    expect("written back, the same bytes", burrbeech_write_list(0, list, 2, back, sizeof back) == 32 * len && same_bytes(back, sheet, len) && back[len] == 0xA5);
-    expect("no record (NULL, 0) is refused with 6", burrbeech_write_list(0, NULL, 0, back, sizeof back) == 6);
-    list[1].deadline = list[1].period + 1;
-    expect("a deadline past the period is refused with 9, task 1", burrbeech_analyse_list(0, list, 2, times, 32) == 9 + 32 * 1);
-
-    printf("%u passed, %u failed\n", passed, failed);
-    return failed != 0;
+    struct sheet f = case_sheet(argv[1], "f"), i = case_sheet(argv[1], "i");
+    try_read(&f, &i);
+    try_analyse();
+    try_write(&f);
+    try_task("no frame is refused with 7, task 1", (struct burrbeech_task){20, 20, 3, 0, {5}}, BURRBEECH_REFUSAL_FRAME_COUNT);
+    try_task("nine frames are refused with 7, task 1", (struct burrbeech_task){20, 20, 3, 9, {5}}, BURRBEECH_REFUSAL_FRAME_COUNT);
+    try_task("a deadline past the period is refused with 9, task 1", (struct burrbeech_task){20, 21, 3, 1, {5}}, BURRBEECH_REFUSAL_ILL_FORMED);
+    try_task("a lock above the largest frame is refused with 10, task 1", (struct burrbeech_task){20, 20, 6, 1, {5}}, BURRBEECH_REFUSAL_LOCK);
+    try_task("frames 1, 2, 3 are refused with 11, task 1", (struct burrbeech_task){20, 20, 0, 3, {1, 2, 3}}, BURRBEECH_REFUSAL_NOT_MONOTONIC);
+    return finished();
 }

@@ -1,0 +1,91 @@
+# make            the libraries and the command: target/lib/libburrbeech.a and .so, target/bin/burrbeech
+# make check      every proof from nothing and every test: .ci/run
+# make install    header, libraries, burrbeech.pc, command and man page, to PREFIX; DESTDIR stands in front of every path
+# make uninstall  takes away what make install put there
+# make clean      removes target/
+PREFIX ?= /usr/local
+DESTDIR ?=
+bindir ?= $(PREFIX)/bin
+includedir ?= $(PREFIX)/include
+libdir ?= $(PREFIX)/lib
+pkgconfigdir ?= $(libdir)/pkgconfig
+mandir ?= $(PREFIX)/share/man
+
+ifeq ($(origin CC),default)
+CC = gcc
+endif
+CARGO ?= cargo
+INSTALL ?= install
+
+# The version and the entries are those of the header; its version macros stand one to a line.
+header := include/burrbeech.h
+number_of = $(shell sed -nE 's/^.define BURRBEECH_VERSION_$(1) ([0-9]+)$$/\1/p' $(header))
+major := $(call number_of,MAJOR)
+minor := $(call number_of,MINOR)
+version := $(major).$(minor).$(call number_of,PATCH)
+entries = $(shell sed -nE 's/^BURRBEECH_ENTRY [a-z0-9_]+ (burrbeech_[a-z_]+).*/\1/p' $(header))
+
+# Until 1.0.0 a minor version may change the entries, so that its number is part of the shared library's name.
+archive := target/lib/libburrbeech.a
+plain := libburrbeech.so
+soname := $(plain).$(if $(filter 0,$(major)),0.$(minor),$(major))
+real := $(plain).$(version)
+exported := target/lib/exported
+command := target/bin/burrbeech
+page := docs/burrbeech.1
+
+.PHONY: all check install uninstall clean FORCE
+.DELETE_ON_ERROR:
+
+all: $(archive) target/lib/$(plain) $(command)
+
+# rt knows what has to be proved again; the archive is as old as its content.
+$(archive): FORCE
+	rt staticlib workbench
+	@mkdir -p $(@D)
+	cmp -s target/staticlib/libworkbench.a $@ || cp target/staticlib/libworkbench.a $@
+
+# The entries and nothing else.
+$(exported): $(header) Makefile
+	@mkdir -p $(@D)
+	printf '{ global: %s local: *; };\n' '$(entries:%=%;)' > $@
+
+target/lib/$(real): $(archive) $(exported)
+	$(CC) -shared -nostartfiles -Wl,-soname,$(soname) -Wl,--version-script,$(exported) -Wl,-z,defs,-z,text,-z,relro,-z,now \
+		-Wl,--whole-archive $(archive) -Wl,--no-whole-archive $(LDFLAGS) -o $@
+
+target/lib/$(soname): target/lib/$(real)
+	ln -sf $(real) $@
+
+target/lib/$(plain): target/lib/$(soname)
+	ln -sf $(soname) $@
+
+# cargo knows what has to be built again.
+$(command): $(archive) $(header) FORCE
+	$(CARGO) build --quiet --release --offline --locked --manifest-path command/Cargo.toml --target-dir target/cargo
+	@mkdir -p $(@D)
+	cmp -s target/cargo/release/burrbeech $@ || cp target/cargo/release/burrbeech $@
+
+check:
+	.ci/run
+
+install: all
+	$(INSTALL) -d '$(DESTDIR)$(bindir)' '$(DESTDIR)$(includedir)' '$(DESTDIR)$(libdir)' '$(DESTDIR)$(pkgconfigdir)' '$(DESTDIR)$(mandir)/man1'
+	$(INSTALL) -m 644 $(header) '$(DESTDIR)$(includedir)'
+	$(INSTALL) -m 644 $(archive) '$(DESTDIR)$(libdir)'
+	$(INSTALL) -m 755 target/lib/$(real) '$(DESTDIR)$(libdir)'
+	ln -sf $(real) '$(DESTDIR)$(libdir)/$(soname)'
+	ln -sf $(soname) '$(DESTDIR)$(libdir)/$(plain)'
+	sed -e 's|@prefix@|$(PREFIX)|' -e 's|@libdir@|$(libdir)|' -e 's|@includedir@|$(includedir)|' -e 's|@version@|$(version)|' burrbeech.pc.in \
+		> '$(DESTDIR)$(pkgconfigdir)/burrbeech.pc'
+	chmod 644 '$(DESTDIR)$(pkgconfigdir)/burrbeech.pc'
+	$(INSTALL) -m 755 $(command) '$(DESTDIR)$(bindir)'
+	$(INSTALL) -m 644 $(page) '$(DESTDIR)$(mandir)/man1'
+
+uninstall:
+	rm -f '$(DESTDIR)$(includedir)/burrbeech.h' '$(DESTDIR)$(bindir)/burrbeech' '$(DESTDIR)$(mandir)/man1/burrbeech.1'
+	rm -f '$(DESTDIR)$(pkgconfigdir)/burrbeech.pc' '$(DESTDIR)$(libdir)/libburrbeech.a'
+	rm -f '$(DESTDIR)$(libdir)/$(plain)' '$(DESTDIR)$(libdir)/$(soname)' '$(DESTDIR)$(libdir)/$(real)'
+
+clean:
+	rm -rf target

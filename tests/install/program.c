@@ -1,0 +1,101 @@
+/* Every entry, from C, against the installed header and library: says what they answer on the sheets of cases F, G and I, in the folder that
+ * is the argument. With --version it says the header's version, by its numbers and as text. */
+#include <burrbeech.h>
+
+#include <stdio.h>
+#include <stdlib.h>
+#include <string.h>
+
+struct sheet {
+    const char *name;
+    uint8_t bytes[BURRBEECH_SHEET_MAX + 1];
+    size_t len;
+};
+
+static void read_sheet(const char *folder, struct sheet *sheet)
+{
+    char path[4096];
+    snprintf(path, sizeof path, "%s/%s.sheet", folder, sheet->name);
+    FILE *file = fopen(path, "rb");
+    if (file == NULL) {
+        perror(path);
+        exit(3);
+    }
+    sheet->len = fread(sheet->bytes, 1, sizeof sheet->bytes, file);
+    fclose(file);
+}
+
+static void print_check(const struct sheet *sheet)
+{
+    uint8_t times[BURRBEECH_TIMES_BYTES];
+    uint32_t answer = burrbeech_check_sheet(sheet->bytes, sheet->len, times, sizeof times);
+    if (burrbeech_check_refusal(answer) != 0) {
+        printf("%s checked: refused %u\n", sheet->name, (unsigned)burrbeech_check_refusal(answer));
+    } else if (burrbeech_check_missed(answer)) {
+        printf("%s checked: missed %zu %zu\n", sheet->name, burrbeech_check_missed_task(answer), burrbeech_check_missed_blocker(answer));
+    } else {
+        printf("%s checked: holds, %u in task 1\n", sheet->name, (unsigned)burrbeech_check_time(times, 1, 0));
+    }
+}
+
+static void print_analysis(const char *name, const char *what, uint64_t answer, const uint32_t *times)
+{
+    printf("%s %s: ", name, what);
+    if (burrbeech_refusal(answer) != 0) {
+        printf("refused %u, task %zu\n", (unsigned)burrbeech_refusal(answer), burrbeech_refusal_task(answer));
+        return;
+    }
+    if (burrbeech_analysed_missed(answer)) {
+        printf("missed %zu %zu,", burrbeech_analysed_missed_task(answer), burrbeech_analysed_missed_blocker(answer));
+    } else {
+        printf("holds,");
+    }
+    for (size_t task = 0; task < burrbeech_analysed_tasks(answer); task++) {
+        printf(" %u", (unsigned)burrbeech_analysed_time(times, task, 0));
+    }
+    printf("\n");
+}
+
+static void print_lists(const struct sheet *sheet)
+{
+    struct burrbeech_task list[BURRBEECH_TASKS_MAX];
+    uint32_t times[BURRBEECH_TIMES_MAX];
+    uint8_t back[BURRBEECH_SHEET_MAX];
+    uint64_t answer = burrbeech_read_list(sheet->bytes, sheet->len, list, BURRBEECH_TASKS_MAX);
+    size_t tasks = burrbeech_read_tasks(answer);
+    uint32_t policy = burrbeech_read_policy(answer);
+    printf("%s read: refusal %u, %zu tasks, policy %u\n", sheet->name, (unsigned)burrbeech_refusal(answer), tasks, (unsigned)policy);
+    print_analysis(sheet->name, "list", burrbeech_analyse_list(policy, list, tasks, times, BURRBEECH_TIMES_MAX), times);
+    size_t written = burrbeech_written_bytes(burrbeech_write_list(policy, list, tasks, back, sizeof back));
+    bool same = written == sheet->len && memcmp(back, sheet->bytes, written) == 0;
+    printf("%s written: %zu bytes, %s\n", sheet->name, written, same ? "the same" : "other ones");
+}
+
+static void print_sheet(const struct sheet *sheet)
+{
+    uint32_t times[BURRBEECH_TIMES_MAX];
+    uint8_t text[BURRBEECH_REPORT_MAX];
+    print_check(sheet);
+    print_analysis(sheet->name, "sheet", burrbeech_analyse_sheet(sheet->bytes, sheet->len, times, BURRBEECH_TIMES_MAX), times);
+    print_lists(sheet);
+    size_t length = burrbeech_report_length(burrbeech_report(sheet->bytes, sheet->len, text, sizeof text));
+    fwrite(text, 1, length, stdout);
+}
+
+int main(int argc, char **argv)
+{
+    struct sheet sheets[3] = {{"f", {0}, 0}, {"g", {0}, 0}, {"i", {0}, 0}};
+    if (argc != 2) {
+        fprintf(stderr, "program SHEETS | --version\n");
+        return 3;
+    }
+    if (strcmp(argv[1], "--version") == 0) {
+        printf("%d.%d.%d %s\n", BURRBEECH_VERSION_MAJOR, BURRBEECH_VERSION_MINOR, BURRBEECH_VERSION_PATCH, BURRBEECH_VERSION);
+        return 0;
+    }
+    for (size_t i = 0; i < 3; i++) {
+        read_sheet(argv[1], &sheets[i]);
+        print_sheet(&sheets[i]);
+    }
+    return fflush(stdout) == 0 ? 0 : 3;
+}

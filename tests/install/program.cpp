@@ -1,0 +1,79 @@
+// Every entry, from C++: prints what program.c prints.
+#include <burrbeech.h>
+
+#include <fstream>
+#include <iostream>
+#include <iterator>
+#include <string>
+#include <vector>
+
+typedef std::vector<uint8_t> Bytes;
+
+static Bytes read_sheet(const std::string &path)
+{
+    std::ifstream file(path.c_str(), std::ios::binary);
+    return Bytes(std::istreambuf_iterator<char>(file), std::istreambuf_iterator<char>());
+}
+
+static void print_check(const std::string &name, const Bytes &sheet)
+{
+    Bytes times(BURRBEECH_TIMES_BYTES);
+    uint32_t answer = burrbeech_check_sheet(sheet.data(), sheet.size(), times.data(), times.size());
+    std::cout << name << " checked: ";
+    if (burrbeech_check_refusal(answer) != 0) {
+        std::cout << "refused " << burrbeech_check_refusal(answer) << "\n";
+    } else if (burrbeech_check_missed(answer)) {
+        std::cout << "missed " << burrbeech_check_missed_task(answer) << " " << burrbeech_check_missed_blocker(answer) << "\n";
+    } else {
+        std::cout << "holds, " << burrbeech_check_time(times.data(), 1, 0) << " in task 1\n";
+    }
+}
+
+static void print_analysis(const std::string &name, uint64_t answer, const std::vector<uint32_t> &times)
+{
+    std::cout << name << ": ";
+    if (burrbeech_refusal(answer) != 0) {
+        std::cout << "refused " << burrbeech_refusal(answer) << ", task " << burrbeech_refusal_task(answer) << "\n";
+        return;
+    }
+    if (burrbeech_analysed_missed(answer)) {
+        std::cout << "missed " << burrbeech_analysed_missed_task(answer) << " " << burrbeech_analysed_missed_blocker(answer) << ",";
+    } else {
+        std::cout << "holds,";
+    }
+    for (size_t task = 0; task < burrbeech_analysed_tasks(answer); task++) {
+        std::cout << " " << burrbeech_analysed_time(times.data(), task, 0);
+    }
+    std::cout << "\n";
+}
+
+static void print_lists(const std::string &name, const Bytes &sheet)
+{
+    std::vector<burrbeech_task> list(BURRBEECH_TASKS_MAX);
+    std::vector<uint32_t> times(BURRBEECH_TIMES_MAX);
+    Bytes back(BURRBEECH_SHEET_MAX);
+    uint64_t answer = burrbeech_read_list(sheet.data(), sheet.size(), list.data(), list.size());
+    list.resize(burrbeech_read_tasks(answer));
+    uint32_t policy = burrbeech_read_policy(answer);
+    std::cout << name << " read: refusal " << burrbeech_refusal(answer) << ", " << list.size() << " tasks, policy " << policy << "\n";
+    print_analysis(name + " list", burrbeech_analyse_list(policy, list.data(), list.size(), times.data(), times.size()), times);
+    back.resize(burrbeech_written_bytes(burrbeech_write_list(policy, list.data(), list.size(), back.data(), back.size())));
+    std::cout << name << " written: " << back.size() << " bytes, " << (back == sheet ? "the same" : "other ones") << "\n";
+}
+
+int main(int argc, char **argv)
+{
+    const char *const names[] = {"f", "g", "i"};
+    for (size_t i = 0; argc == 2 && i < 3; i++) {
+        const std::string name = names[i];
+        const Bytes sheet = read_sheet(std::string(argv[1]) + "/" + name + ".sheet");
+        std::vector<uint32_t> times(BURRBEECH_TIMES_MAX);
+        std::string text(BURRBEECH_REPORT_MAX, '\0');
+        print_check(name, sheet);
+        print_analysis(name + " sheet", burrbeech_analyse_sheet(sheet.data(), sheet.size(), times.data(), times.size()), times);
+        print_lists(name, sheet);
+        uint64_t answer = burrbeech_report(sheet.data(), sheet.size(), reinterpret_cast<uint8_t *>(&text[0]), text.size());
+        std::cout << text.substr(0, burrbeech_report_length(answer));
+    }
+    return std::cout.flush() ? 0 : 3;
+}

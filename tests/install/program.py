@@ -1,0 +1,77 @@
+"""Every entry, from Python by ctypes: prints what program.c prints. The arguments are the shared library and the folder of the case sheets."""
+import ctypes
+import sys
+from ctypes import POINTER, c_size_t, c_uint8, c_uint32, c_uint64
+from pathlib import Path
+
+
+class Task(ctypes.Structure):
+    """A task record."""
+
+    _fields_ = [(name, c_uint32) for name in ("period", "deadline", "lock", "frame_count")] + [("frames", c_uint32 * 8)]
+
+
+BYTES, NUMBERS, TASKS = (c_uint8, POINTER(c_uint8)), (c_uint32, POINTER(c_uint32)), (Task, POINTER(Task))
+library = ctypes.CDLL(sys.argv[1])
+
+
+def entry(name, answer, *arguments):
+    """An entry of the library with the types of its declaration; a lent buffer goes as a pointer and a length."""
+    function = library["burrbeech_" + name]
+    function.restype = answer
+    function.argtypes = [t for a in arguments for t in ((a[1], c_size_t) if isinstance(a, tuple) else (a,))]
+    return function
+
+
+check_sheet = entry("check_sheet", c_uint32, BYTES, BYTES)
+read_list = entry("read_list", c_uint64, BYTES, TASKS)
+write_list = entry("write_list", c_uint64, c_uint32, TASKS, BYTES)
+analyse_list = entry("analyse_list", c_uint64, c_uint32, TASKS, NUMBERS)
+analyse_sheet = entry("analyse_sheet", c_uint64, BYTES, NUMBERS)
+report = entry("report", c_uint64, BYTES, BYTES)
+
+
+def opened(answer):
+    """The refusal and the detail."""
+    return answer & 0xFF, answer >> 8
+
+
+def print_check(name, sheet):
+    times = (c_uint8 * 512)()
+    answer = check_sheet(sheet, len(sheet), times, len(times))
+    if answer >= 100:
+        print(f"{name} checked: missed {(answer - 100) // 17} {(answer - 100) % 17}")
+    elif answer > 0:
+        print(f"{name} checked: refused {answer}")
+    else:
+        print(f"{name} checked: holds, {int.from_bytes(bytes(times[32:36]), 'big')} in task 1")
+
+
+def print_analysis(name, answer, times):
+    refusal, detail = opened(answer)
+    if refusal:
+        print(f"{name}: refused {refusal}, task {detail & 0xFF}")
+        return
+    outcome, tasks = detail & 0xFFFF, detail >> 16 & 0xFF
+    verdict = f"missed {(outcome - 1) // 17} {(outcome - 1) % 17}" if outcome else "holds"
+    print(f"{name}: {verdict},", *(times[8 * task] for task in range(tasks)))
+
+
+def print_lists(name, sheet):
+    tasks, times, back = (Task * 16)(), (c_uint32 * 128)(), (c_uint8 * 452)()
+    refusal, detail = opened(read_list(sheet, len(sheet), tasks, len(tasks)))
+    count, policy = (0, 0) if refusal else (detail & 0xFF, detail >> 8 & 0xFF)
+    print(f"{name} read: refusal {refusal}, {count} tasks, policy {policy}")
+    print_analysis(f"{name} list", analyse_list(policy, tasks, count, times, len(times)), times)
+    refusal, detail = opened(write_list(policy, tasks, count, back, len(back)))
+    written = 0 if refusal else detail
+    print(f"{name} written: {written} bytes, {'the same' if back[:written] == sheet[:] else 'other ones'}")
+
+
+for name in ("f", "g", "i"):
+    content = Path(sys.argv[2], name + ".sheet").read_bytes()
+    sheet, times, text = (c_uint8 * len(content))(*content), (c_uint32 * 128)(), (c_uint8 * 2048)()
+    print_check(name, sheet)
+    print_analysis(f"{name} sheet", analyse_sheet(sheet, len(sheet), times, len(times)), times)
+    print_lists(name, sheet)
+    print(bytes(text[: opened(report(sheet, len(sheet), text, len(text)))[1]]).decode("ascii"), end="")

@@ -1,0 +1,143 @@
+/* The decoders of the header, on every answer that there is. */
+#include "expect.h"
+
+static uint64_t success(uint64_t detail)
+{
+    return detail << 8;
+}
+
+static uint64_t refused(uint32_t number, uint64_t task)
+{
+    return number | task << 8;
+}
+
+/* A refusal is no success of any entry: nothing was read, written or analysed. */
+static bool says_nothing_else(uint64_t answer)
+{
+    return burrbeech_read_tasks(answer) == 0 && burrbeech_read_policy(answer) == 0 && burrbeech_written_bytes(answer) == 0 &&
+           burrbeech_report_length(answer) == 0 && burrbeech_analysed_tasks(answer) == 0 && burrbeech_analysed_outcome(answer) == 0 &&
+           !burrbeech_analysed_holds(answer) && !burrbeech_analysed_missed(answer) && burrbeech_analysed_missed_task(answer) == 0 &&
+           burrbeech_analysed_missed_blocker(answer) == BURRBEECH_NO_BLOCKER;
+}
+
+static bool refusals(void)
+{
+    for (uint32_t number = 1; number <= 12; number++) {
+        bool names = number == 7 || (number >= 9 && number <= 11);
+        for (size_t task = 0; task < (names ? BURRBEECH_TASKS_MAX : 1); task++) {
+            uint64_t answer = refused(number, task);
+            if (burrbeech_refusal(answer) != number || burrbeech_refusal_names_task(number) != names ||
+                burrbeech_refusal_task(answer) != task || burrbeech_detail(answer) != task || !says_nothing_else(answer)) {
+                return false;
+            }
+        }
+    }
+    return true;
+}
+
+static bool lists_read(void)
+{
+    for (uint32_t policy = 0; policy <= 2; policy++) {
+        for (size_t tasks = 1; tasks <= BURRBEECH_TASKS_MAX; tasks++) {
+            uint64_t answer = success(tasks | (uint64_t)policy << 8);
+            if (burrbeech_refusal(answer) != 0 || burrbeech_read_tasks(answer) != tasks || burrbeech_read_policy(answer) != policy) {
+                return false;
+            }
+        }
+    }
+    return true;
+}
+
+static bool lengths(void)
+{
+    for (size_t bytes = 0; bytes <= BURRBEECH_REPORT_MAX; bytes++) {
+        uint64_t answer = success(bytes);
+        if (burrbeech_refusal(answer) != 0 || burrbeech_written_bytes(answer) != bytes || burrbeech_report_length(answer) != bytes) {
+            return false;
+        }
+    }
+    return true;
+}
+
+/* A miss of task p with blocker b by both numberings, in a set of so many tasks. */
+static bool one_miss(size_t p, size_t b, size_t tasks)
+{
+    uint64_t answer = success((1 + 17 * p + b) | (uint64_t)tasks << 16);
+    uint32_t checked = (uint32_t)(100 + 17 * p + b);
+    return burrbeech_refusal(answer) == 0 && !burrbeech_analysed_holds(answer) && burrbeech_analysed_missed(answer) &&
+           burrbeech_analysed_missed_task(answer) == p && burrbeech_analysed_missed_blocker(answer) == b &&
+           burrbeech_analysed_tasks(answer) == tasks && !burrbeech_check_holds(checked) && burrbeech_check_refusal(checked) == 0 &&
+           burrbeech_check_missed(checked) && burrbeech_check_missed_task(checked) == p && burrbeech_check_missed_blocker(checked) == b;
+}
+
+static bool misses(void)
+{
+    for (size_t outcome = 0; outcome < BURRBEECH_TASKS_MAX * (BURRBEECH_NO_BLOCKER + 1); outcome++) {
+        size_t p = outcome / 17, b = outcome % 17;
+        if (!one_miss(p, b, p + 1) || !one_miss(p, b, BURRBEECH_TASKS_MAX)) {
+            return false;
+        }
+    }
+    return true;
+}
+
+static bool sets_that_hold(void)
+{
+    for (size_t tasks = 1; tasks <= BURRBEECH_TASKS_MAX; tasks++) {
+        uint64_t answer = success((uint64_t)tasks << 16);
+        if (!burrbeech_analysed_holds(answer) || burrbeech_analysed_missed(answer) || burrbeech_analysed_tasks(answer) != tasks ||
+            burrbeech_analysed_missed_blocker(answer) != BURRBEECH_NO_BLOCKER) {
+            return false;
+        }
+    }
+    return burrbeech_check_holds(0) && !burrbeech_check_missed(0) && burrbeech_check_refusal(0) == 0;
+}
+
+static bool refusals_of_a_check(void)
+{
+    for (uint32_t number = 1; number <= 12; number++) {
+        if (burrbeech_check_holds(number) || burrbeech_check_missed(number) || burrbeech_check_refusal(number) != number ||
+            burrbeech_check_missed_blocker(number) != BURRBEECH_NO_BLOCKER) {
+            return false;
+        }
+    }
+    return true;
+}
+
+/* No two numbers have the same words, and a number that is none has words of its own. */
+static bool words(void)
+{
+    for (uint32_t number = 0; number <= 13; number++) {
+        for (uint32_t other = 0; other < number; other++) {
+            if (strcmp(burrbeech_refusal_words(number), burrbeech_refusal_words(other)) == 0) {
+                return false;
+            }
+        }
+    }
+    return strcmp(burrbeech_refusal_words(13), burrbeech_refusal_words(99)) == 0;
+}
+
+/* The last slot of the last task, with a different digit in each byte. */
+static bool times(void)
+{
+    uint8_t bytes[BURRBEECH_TIMES_BYTES] = {0};
+    uint32_t numbers[BURRBEECH_TIMES_MAX] = {0};
+    static const uint8_t last[4] = {0x01, 0x23, 0x45, 0x67};
+    memcpy(bytes + BURRBEECH_TIMES_BYTES - sizeof last, last, sizeof last);
+    numbers[BURRBEECH_TIMES_MAX - 1] = 0x01234567;
+    return burrbeech_check_time(bytes, 15, 7) == 0x01234567 && burrbeech_check_time(bytes, 15, 6) == 0 &&
+           burrbeech_analysed_time(numbers, 15, 7) == 0x01234567 && burrbeech_analysed_time(numbers, 15, 6) == 0;
+}
+
+int main(void)
+{
+    expect("refusals, with the task where they name one", refusals());
+    expect("lists read", lists_read());
+    expect("bytes written and lengths of reports", lengths());
+    expect("misses of every task with every blocker", misses());
+    expect("sets that hold", sets_that_hold());
+    expect("refusals of burrbeech_check_sheet", refusals_of_a_check());
+    expect("words for each refusal", words());
+    expect("times by task and frame", times());
+    return finished();
+}
