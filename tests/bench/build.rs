@@ -1,8 +1,8 @@
-// Links the C entry, as `rt staticlib workbench` left it.
+// Links the library that `make` left.
 fn main() {
     let here = std::env::var("CARGO_MANIFEST_DIR").unwrap();
-    let libs = format!("{here}/../../target/staticlib");
+    let libs = format!("{here}/../../target/lib");
     println!("cargo:rustc-link-search=native={libs}");
-    println!("cargo:rustc-link-lib=static=workbench");
-    println!("cargo:rerun-if-changed={libs}/libworkbench.a");
+    println!("cargo:rustc-link-lib=static=burrbeech");
+    println!("cargo:rerun-if-changed={libs}/libburrbeech.a");
 }

@@ -168,6 +168,20 @@ fn tiny_task(random: &mut Random, most_frames: u32) -> Task {
     Task { lock, ..task }
 }
 
+/// Sets of one task, of two, and so on, round after round; some at the limits of the numbers.
+pub fn sets_of_every_size(seed: u64, count: usize) -> impl Iterator<Item = Set> {
+    let mut random = Random::new(seed);
+    (0..count).map(move |i| {
+        let tasks = i % MOST_TASKS + 1;
+        let shape = Shape { tasks, ..shape(&mut random) };
+        if i % 7 == 0 {
+            edge_set(&mut random)
+        } else {
+            set_of(&mut random, shape)
+        }
+    })
+}
+
 /// Sets that take the equation the most rounds: one climbs by a tick or so to a miss, one to a time that holds.
 pub fn costly_sets() -> [Set; 2] {
     let plain = |period: u32, frames: Vec<u32>| Task { period, deadline: period, lock: 0, frames };
@@ -501,6 +515,15 @@ pub fn littered(random: &mut Random, mut list: Vec<Record>) -> Vec<Record> {
 /// Every size of lent room from none to one past the need; below the need it is too small.
 pub fn rooms(need: usize) -> std::ops::RangeInclusive<usize> {
     0..=need + 1
+}
+
+/// Lent room that fits most of the time.
+pub fn likely_room(random: &mut Random, need: usize) -> usize {
+    match random.below(6) {
+        0 => random.below(need as u64) as usize,
+        1 => need + random.below(5) as usize,
+        _ => need,
+    }
 }
 
 /// A sheet with a right check word and up to four fields of any value, so that several refusals contend.

@@ -1,12 +1,10 @@
 //! `second`: the second program for use by hand. Nothing here is proved; the proved report program is `report`.
-use second::{cases, report, sheet, table};
+use second::{cases, report, sheet};
 use std::io::{Read, Write};
 use std::process::ExitCode;
 
-const USAGE: &str = "second report < sheet            the report of a sheet
-second compose < table > sheet   a sheet from a table: `policy P`, then lines `T D Q frames..`
-second show < sheet > table      the table of a sheet
-second sheets DIR                writes the cases A to M as DIR/*.sheet
+const USAGE: &str = "second report < sheet   the report of a sheet
+second sheets DIR       writes the cases A to M as DIR/*.sheet
 This program is unproved: it is the second reading that the proved code is compared with.";
 
 fn main() -> ExitCode {
@@ -14,8 +12,6 @@ fn main() -> ExitCode {
     let words: Vec<&str> = words.iter().map(String::as_str).collect();
     let done = match words.as_slice() {
         ["report"] => sheet_from_input().and_then(|bytes| put(report::report(&bytes).as_bytes())),
-        ["compose"] => compose(),
-        ["show"] => sheet_from_input().and_then(|bytes| put(table::show(&bytes).map_err(|e| e.to_string())?.as_bytes())),
         ["sheets", directory] => write_sheets(directory),
         _ => Err(USAGE.to_string()),
     };
@@ -38,12 +34,6 @@ fn sheet_from_input() -> Result<Vec<u8>, String> {
 
 fn put(bytes: &[u8]) -> Result<(), String> {
     std::io::stdout().write_all(bytes).map_err(|e| e.to_string())
-}
-
-fn compose() -> Result<(), String> {
-    let mut text = String::new();
-    std::io::stdin().read_to_string(&mut text).map_err(|e| e.to_string())?;
-    put(&table::compose(&text).map_err(|e| e.to_string())?)
 }
 
 fn write_sheets(directory: &str) -> Result<(), String> {

@@ -8,9 +8,11 @@ extern "C" {
     fn burrbeech_sealed(bytes: *const u8, len: usize) -> bool;
     fn burrbeech_seal(bytes: *mut u8, len: usize) -> bool;
     fn burrbeech_check_sheet(sheet: *const u8, sheet_len: usize, times: *mut u8, times_len: usize) -> u32;
-    fn burrbeech_read_list(sheet: *const u8, sheet_len: usize, list: *mut Record, list_len: usize) -> u32;
-    fn burrbeech_write_list(policy: u32, list: *const Record, list_len: usize, sheet: *mut u8, sheet_len: usize) -> u32;
-    fn burrbeech_analyse_list(policy: u32, list: *const Record, list_len: usize, times: *mut u32, times_len: usize) -> u32;
+    fn burrbeech_read_list(sheet: *const u8, sheet_len: usize, list: *mut Record, list_len: usize) -> u64;
+    fn burrbeech_write_list(policy: u32, list: *const Record, list_len: usize, sheet: *mut u8, sheet_len: usize) -> u64;
+    fn burrbeech_analyse_list(policy: u32, list: *const Record, list_len: usize, times: *mut u32, times_len: usize) -> u64;
+    fn burrbeech_analyse_sheet(sheet: *const u8, sheet_len: usize, times: *mut u32, times_len: usize) -> u64;
+    fn burrbeech_report(sheet: *const u8, sheet_len: usize, text: *mut u8, text_len: usize) -> u64;
 }
 
 pub fn take(bytes: &[u8], at: usize, width: usize) -> Option<u32> {
@@ -37,14 +39,22 @@ pub fn check_sheet(sheet: &[u8], times: &mut [u8]) -> u32 {
     unsafe { burrbeech_check_sheet(sheet.as_ptr(), sheet.len(), times.as_mut_ptr(), times.len()) }
 }
 
-pub fn read_list(sheet: &[u8], list: &mut [Record]) -> u32 {
+pub fn read_list(sheet: &[u8], list: &mut [Record]) -> u64 {
     unsafe { burrbeech_read_list(sheet.as_ptr(), sheet.len(), list.as_mut_ptr(), list.len()) }
 }
 
-pub fn write_list(policy: u32, list: &[Record], sheet: &mut [u8]) -> u32 {
+pub fn write_list(policy: u32, list: &[Record], sheet: &mut [u8]) -> u64 {
     unsafe { burrbeech_write_list(policy, list.as_ptr(), list.len(), sheet.as_mut_ptr(), sheet.len()) }
 }
 
-pub fn analyse_list(policy: u32, list: &[Record], times: &mut [u32]) -> u32 {
+pub fn analyse_list(policy: u32, list: &[Record], times: &mut [u32]) -> u64 {
     unsafe { burrbeech_analyse_list(policy, list.as_ptr(), list.len(), times.as_mut_ptr(), times.len()) }
+}
+
+pub fn analyse_sheet(sheet: &[u8], times: &mut [u32]) -> u64 {
+    unsafe { burrbeech_analyse_sheet(sheet.as_ptr(), sheet.len(), times.as_mut_ptr(), times.len()) }
+}
+
+pub fn report(sheet: &[u8], text: &mut [u8]) -> u64 {
+    unsafe { burrbeech_report(sheet.as_ptr(), sheet.len(), text.as_mut_ptr(), text.len()) }
 }

@@ -1,5 +1,6 @@
 //! The report's text.
 use crate::analysis::{analyse, Analysis, Verdict};
+use crate::refusal::Refusal;
 use crate::sheet;
 use crate::task::Set;
 
@@ -9,6 +10,14 @@ pub fn report(bytes: &[u8]) -> String {
         Err(refusal) => format!("refused {}\n", refusal.number()),
         Ok(set) => report_of(&set, &analyse(&set)),
     }
+}
+
+/// The report into lent bytes, and its length; surplus room keeps its content, and too little of it nothing is written to.
+pub fn report_into(bytes: &[u8], text: &mut [u8]) -> Result<usize, Refusal> {
+    let report = report(bytes);
+    let room = text.get_mut(..report.len()).ok_or(Refusal::Room)?;
+    room.copy_from_slice(report.as_bytes());
+    Ok(report.len())
 }
 
 fn report_of(set: &Set, analysis: &Analysis) -> String {

@@ -4,7 +4,7 @@ use second::cases::{cases, Case, Expected};
 use second::refusal::Refusal;
 use second::report::report;
 use second::task::{admit_list, start_frame, Record, Set, Task, MOST_FRAMES};
-use second::{check_word, sheet, table};
+use second::{check_word, sheet};
 
 fn case(name: &str) -> Case {
     cases().into_iter().find(|case| case.name == name).unwrap()
@@ -141,25 +141,6 @@ fn other_reports() {
     assert_eq!(report(&[]), "refused 1\n");
     assert_eq!(report(&[0; 452]), "refused 2\n");
     assert_eq!(report(&[0; 453]), "refused 1\n");
-}
-
-#[test]
-fn tables() {
-    let text = "policy 0\n# T D Q frames\n10 4 0 2\n20 20 3 5\n";
-    let sheet = sheet::write(&case("f").set);
-    assert_eq!(table::show(&sheet).unwrap(), text);
-    assert_eq!(table::compose(text).unwrap(), sheet);
-    for case in cases().iter().filter(|case| case.name != "i") {
-        let sheet = sheet::write(&case.set);
-        assert_eq!(table::compose(&table::show(&sheet).unwrap()).unwrap(), sheet, "{}", case.name);
-    }
-    let refused = |text| table::compose(text).unwrap_err();
-    assert_eq!(refused("policy 0\n10 10 0 1 2 3"), table::TableError::Refused(Refusal::NotMonotonic(0)));
-    assert_eq!(refused("policy 0\n10 10 0 1 1 1 1 1 1 1 1 1"), table::TableError::Refused(Refusal::FrameCount(0)));
-    assert_eq!(refused("policy 0\n10 10 0"), table::TableError::Refused(Refusal::FrameCount(0)));
-    assert_eq!(refused("policy 0\n\n10 ten 0 1"), table::TableError::Line(3));
-    assert_eq!(refused("10 10 0 1"), table::TableError::Line(1));
-    assert_eq!(refused("# nothing\n"), table::TableError::NoPolicy);
 }
 
 /// The sheets that stand in files are those of the cases, and there is no other.

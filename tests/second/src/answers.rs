@@ -1,0 +1,26 @@
+//! The one number that a C entry answers (all but `burrbeech_check_sheet`): the refusal below 256, 0 for none, and 256 times the detail.
+use crate::analysis::Verdict;
+use crate::refusal::Refusal;
+
+/// A refusal with the task that it names, or what the call answers by its detail.
+pub fn number<T>(answer: Result<T, Refusal>, detail: impl FnOnce(T) -> u64) -> u64 {
+    answer.map_or_else(refused, |t| detail(t) << 8)
+}
+
+pub fn refused(refusal: Refusal) -> u64 {
+    u64::from(refusal.number()) + 256 * refusal.task() as u64
+}
+
+/// The task count in bits 0 to 7, the policy in bits 8 to 15.
+pub fn read((policy, tasks): (u32, usize)) -> u64 {
+    tasks as u64 + (u64::from(policy) << 8)
+}
+
+/// The outcome in bits 0 to 15, the task count in bits 16 to 23.
+pub fn analysed(verdict: Verdict, tasks: usize) -> u64 {
+    let outcome = match verdict {
+        Verdict::Holds => 0,
+        Verdict::Missed { task, blocker } => 1 + 17 * task as u64 + blocker.unwrap_or(16) as u64,
+    };
+    outcome + ((tasks as u64) << 16)
+}

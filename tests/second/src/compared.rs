@@ -1,0 +1,122 @@
+//! Calls that lend memory, by the proved code and by the second reading: the same number and the same content afterwards.
+use crate::random::Random;
+use crate::refusal::Refusal;
+use crate::task::{Record, MOST_TASKS};
+use crate::{analysis, answers, proved, report, sheet};
+use std::collections::{BTreeMap, BTreeSet};
+use std::fmt::Debug;
+
+/// Memory before and after what is lent, which no call may touch.
+const GUARD: usize = 3;
+
+/// The comparisons made with one entry, by refusal, 0 for none.
+pub struct Compared {
+    random: Random,
+    counts: BTreeMap<u64, u64>,
+    /// Refusals with their task numbers.
+    refusals: BTreeSet<(u64, u64)>,
+}
+
+impl Compared {
+    pub fn new(seed: u64) -> Self {
+        Compared { random: Random::new(seed), counts: BTreeMap::new(), refusals: BTreeSet::new() }
+    }
+
+    fn byte_room(&mut self, room: usize) -> Vec<u8> {
+        self.random.bytes(GUARD + room + GUARD)
+    }
+
+    fn time_room(&mut self, room: usize) -> Vec<u32> {
+        (0..GUARD + room + GUARD).map(|_| self.random.next() as u32).collect()
+    }
+
+    fn record_room(&mut self, room: usize) -> Vec<Record> {
+        let mut any = || self.random.next() as u32;
+        let mut record = || Record { period: any(), deadline: any(), lock: any(), frame_count: any(), frames: [(); 8].map(|_| any()) };
+        (0..GUARD + room + GUARD).map(|_| record()).collect()
+    }
+
+    /// The same number and the same content, in the lent room and around it; a refused call changes nothing.
+    fn compare<T: Clone + PartialEq + Debug>(
+        &mut self,
+        before: &[T],
+        second: impl FnOnce(&mut [T]) -> u64,
+        proved: impl FnOnce(&mut [T]) -> u64,
+    ) -> u64 {
+        let (mut ours, mut theirs) = (before.to_vec(), before.to_vec());
+        let lent = GUARD..before.len() - GUARD;
+        let expected = second(&mut theirs[lent.clone()]);
+        let answer = proved(&mut ours[lent]);
+        assert_eq!(answer, expected);
+        assert_eq!(ours, theirs);
+        let refusal = answer % 256;
+        assert!(refusal == 0 || ours == before, "refusal {refusal} changed something");
+        *self.counts.entry(refusal).or_insert(0) += 1;
+        if refusal > 0 {
+            self.refusals.insert((refusal, answer / 256));
+        }
+        answer
+    }
+
+    pub fn read_list(&mut self, bytes: &[u8], room: usize) -> u64 {
+        let before = self.record_room(room);
+        let second = |list: &mut [Record]| answers::number(sheet::read_into(bytes, list), answers::read);
+        self.compare(&before, second, |list| proved::read_list(bytes, list))
+    }
+
+    pub fn write_list(&mut self, policy: u32, list: &[Record], room: usize) -> u64 {
+        let before = self.byte_room(room);
+        let second = |buffer: &mut [u8]| answers::number(sheet::write_into(policy, list, buffer), |bytes| bytes as u64);
+        self.compare(&before, second, |buffer| proved::write_list(policy, list, buffer))
+    }
+
+    pub fn analyse_list(&mut self, policy: u32, list: &[Record], room: usize) -> u64 {
+        let before = self.time_room(room);
+        let detail = |verdict| answers::analysed(verdict, list.len());
+        let second = |times: &mut [u32]| answers::number(analysis::analyse_list(policy, list, times), detail);
+        self.compare(&before, second, |times| proved::analyse_list(policy, list, times))
+    }
+
+    pub fn analyse_sheet(&mut self, bytes: &[u8], room: usize) -> u64 {
+        let before = self.time_room(room);
+        let detail = |verdict| answers::analysed(verdict, sheet::read(bytes).map_or(0, |set| set.tasks.len()));
+        let second = |times: &mut [u32]| answers::number(analysis::analyse_sheet(bytes, times), detail);
+        self.compare(&before, second, |times| proved::analyse_sheet(bytes, times))
+    }
+
+    pub fn report(&mut self, bytes: &[u8], room: usize) -> u64 {
+        let before = self.byte_room(room);
+        let second = |text: &mut [u8]| answers::number(report::report_into(bytes, text), |length| length as u64);
+        self.compare(&before, second, |text| proved::report(bytes, text))
+    }
+
+    pub fn total(&self) -> u64 {
+        self.counts.values().sum()
+    }
+
+    /// Prints the counts; every refusal that the entry can give must have come, and those with a task number for every task.
+    pub fn finish(&self, what: &str, reachable: &[u64]) {
+        println!("{what}: {} comparisons, by refusal, 0 for none: {:?}", self.total(), self.counts);
+        assert_eq!(self.counts.keys().copied().collect::<Vec<u64>>(), reachable);
+        let names_task = |number: u64| [7, 9, 10, 11].contains(&number);
+        for refusal in reachable.iter().filter(|&&n| names_task(n)) {
+            let tasks = self.refusals.iter().filter(|r| r.0 == *refusal).count();
+            assert_eq!(tasks, MOST_TASKS, "refusal {refusal}");
+        }
+        assert!(self.refusals.iter().all(|&(n, task)| names_task(n) || task == 0));
+    }
+}
+
+/// Whether the answer is the refusal for too little room.
+pub fn no_room(answer: u64) -> bool {
+    answer == answers::refused(Refusal::Room)
+}
+
+/// The kind of an analysis that was not refused.
+pub fn verdict(answer: u64) -> &'static str {
+    match answer >> 8 & 0xFFFF {
+        0 => "holds",
+        outcome if (outcome - 1) % 17 == 16 => "missed, no blocker",
+        _ => "missed, blocker",
+    }
+}
