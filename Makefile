@@ -4,12 +4,12 @@
 # make uninstall  takes away what make install put there
 # make clean      removes target/
 PREFIX ?= /usr/local
-DESTDIR ?=
-bindir ?= $(PREFIX)/bin
-includedir ?= $(PREFIX)/include
-libdir ?= $(PREFIX)/lib
-pkgconfigdir ?= $(libdir)/pkgconfig
-mandir ?= $(PREFIX)/share/man
+prefix = $(PREFIX)
+bindir = $(prefix)/bin
+includedir = $(prefix)/include
+libdir = $(prefix)/lib
+pkgconfigdir = $(libdir)/pkgconfig
+mandir = $(prefix)/share/man
 
 ifeq ($(origin CC),default)
 CC = gcc
@@ -34,16 +34,19 @@ exported := target/lib/exported
 command := target/bin/burrbeech
 page := docs/burrbeech.1
 
-.PHONY: all check install uninstall clean FORCE
+# What the archive and the command are made of; folders too, so that a file that was taken away counts.
+proved := $(shell find crates -name must-fail -prune -o -print) crates.txt .ci/toolchain
+glue := $(shell find command -path command/tests -prune -o -name target -prune -o -print)
+
+.PHONY: all check install uninstall clean
 .DELETE_ON_ERROR:
 
 all: $(archive) target/lib/$(plain) $(command)
 
-# rt knows what has to be proved again; the archive is as old as its content.
-$(archive): FORCE
+$(archive): $(proved)
 	rt staticlib workbench
 	@mkdir -p $(@D)
-	cmp -s target/staticlib/libworkbench.a $@ || cp target/staticlib/libworkbench.a $@
+	cp target/staticlib/libworkbench.a $@
 
 # The entries and nothing else.
 $(exported): $(header) Makefile
@@ -60,11 +63,10 @@ target/lib/$(soname): target/lib/$(real)
 target/lib/$(plain): target/lib/$(soname)
 	ln -sf $(soname) $@
 
-# cargo knows what has to be built again.
-$(command): $(archive) $(header) FORCE
-	$(CARGO) build --quiet --release --offline --locked --manifest-path command/Cargo.toml --target-dir target/cargo
+$(command): $(archive) $(header) $(glue)
+	$(CARGO) build --release --offline --locked --manifest-path command/Cargo.toml --target-dir target/cargo
 	@mkdir -p $(@D)
-	cmp -s target/cargo/release/burrbeech $@ || cp target/cargo/release/burrbeech $@
+	cp target/cargo/release/burrbeech $@
 
 check:
 	.ci/run
@@ -76,7 +78,7 @@ install: all
 	$(INSTALL) -m 755 target/lib/$(real) '$(DESTDIR)$(libdir)'
 	ln -sf $(real) '$(DESTDIR)$(libdir)/$(soname)'
 	ln -sf $(soname) '$(DESTDIR)$(libdir)/$(plain)'
-	sed -e 's|@prefix@|$(PREFIX)|' -e 's|@libdir@|$(libdir)|' -e 's|@includedir@|$(includedir)|' -e 's|@version@|$(version)|' burrbeech.pc.in \
+	sed -e 's|@prefix@|$(prefix)|' -e 's|@libdir@|$(libdir)|' -e 's|@includedir@|$(includedir)|' -e 's|@version@|$(version)|' burrbeech.pc.in \
 		> '$(DESTDIR)$(pkgconfigdir)/burrbeech.pc'
 	chmod 644 '$(DESTDIR)$(pkgconfigdir)/burrbeech.pc'
 	$(INSTALL) -m 755 $(command) '$(DESTDIR)$(bindir)'
