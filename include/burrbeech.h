@@ -2,17 +2,21 @@
  *
  *     cc main.c $(pkg-config --cflags --libs burrbeech)
  *
- * A task sheet is 15 to 452 bytes of packed bits with a policy and 1 to 16 tasks. Tasks and frames count from 0, times are ticks.
+ * A task sheet is 15 to 452 bytes of packed bits with a policy and 1 to 16 tasks. Tasks and frames count from 0, times
+ * are ticks.
  *
- * What a caller may do. Every byte string, every list, every number in every field and every size of buffer may be passed: what is no
- * sheet and no set is refused, by a number. NULL with length 0 is an empty buffer; NULL with any other length is not allowed. The buffers of
- * one call must not overlap. Bytes may stand anywhere; records and 32-bit numbers are aligned as their C types are (4 bytes).
+ * What a caller may pass: every byte string, every list, every number in every field and every size of buffer. What is
+ * no sheet or no set is refused, by a number. A length counts the elements of its buffer: bytes, records or 32-bit
+ * numbers. NULL with length 0 is an empty buffer; NULL with any other length is not allowed. The buffers of one call
+ * must not overlap. Bytes may stand at any address, records and numbers where their C types may (a multiple of 4).
  *
- * What a call does. A refused call changes no lent memory, and memory past what an answer needs keeps its content. An entry keeps no state,
- * allocates nothing, sets no errno and raises no signal: any number of threads may be in any entries at a time, each with its own buffers. No
- * call takes more than BURRBEECH_STACK_MAX bytes of stack. Most calls take microseconds; the costliest sheet found takes a tenth of a second.
+ * What a call does: it reads and writes the buffers that it is lent and nothing else. A refused call changes none of
+ * them, and what an answer does not need of them keeps its content. There is no state, no allocation, no errno and no
+ * signal. Any number of threads may be in any of the entries at a time; memory that a call reads nobody may write
+ * meanwhile, and memory that it writes nobody may touch. A call is content with BURRBEECH_STACK_MAX bytes of stack.
+ * Most calls take microseconds; the costliest sheet found takes a tenth of a second.
  *
- * The libraries are for x86-64 and the System V calling convention. */
+ * The libraries are for x86-64 and its System V calling convention. */
 #ifndef BURRBEECH_H
 #define BURRBEECH_H
 
@@ -28,7 +32,7 @@
 
 /* Limits. */
 #define BURRBEECH_SHEET_MIN 15      /* bytes of the shortest sheet */
-#define BURRBEECH_SHEET_MAX 452     /* bytes of the longest sheet; of a longer file read one byte more, and it is refused for its length */
+#define BURRBEECH_SHEET_MAX 452     /* bytes of the longest sheet; of a file read one more, so that a longer one is refused */
 #define BURRBEECH_TASKS_MAX 16      /* tasks of a set */
 #define BURRBEECH_FRAMES_MAX 8      /* frames of a task, and slots for its times */
 #define BURRBEECH_TICKS_MAX 1048575 /* the longest period, deadline, lock or frame time */
@@ -93,45 +97,56 @@ BURRBEECH_FACT(burrbeech_size_has_8_bytes, sizeof(size_t) == 8);
 extern "C" {
 #endif
 
-/* ---- The entries ------------------------------------------------------------------------------------------------------------------ */
+/* ---- The entries ------------------------------------------------------------------------------------------------ */
 
-/* Analyses the sheet of sheet_len bytes and writes the response times as bytes: for a sheet of n tasks the first 32 * n bytes of times hold
- * eight times for each task in task-number order, frame by frame, four bytes each, high byte first (burrbeech_check_time takes one). A slot
- * without a frame holds 0, and so do all eight slots of a task that does not pass.
+/* Analyses a sheet and writes the response times as bytes: for a sheet of n tasks the first 32 * n bytes of times hold
+ * eight times for each task in task-number order, frame by frame, four bytes each, high byte first;
+ * burrbeech_check_time takes one. A slot without a frame holds 0, and so do all eight slots of a task that does not
+ * pass.
  *
- * Answers 0 if the set holds; 1 to 12 for a refusal, by its number (12: times_len is below 32 * n); 100 + 17 * p + b if task p misses with
- * blocker b (16 for none), p being the first task in priority order that does not pass. The burrbeech_check_ functions below take the answer
- * apart. burrbeech_analyse_sheet says more: the task count, and the task that a refusal names. */
-BURRBEECH_ENTRY uint32_t burrbeech_check_sheet(const uint8_t *sheet, size_t sheet_len, uint8_t *times, size_t times_len);
+ * Answers 0 if the set holds; 1 to 12 for a refusal, by its number (12: times_len is below 32 * n); 100 + 17 * p + b if
+ * task p misses with blocker b (16 for none), p being the first task in priority order that does not pass. The
+ * functions burrbeech_check_* take the answer apart. burrbeech_analyse_sheet says more: the task count, and the task
+ * that a refusal names. */
+BURRBEECH_ENTRY uint32_t burrbeech_check_sheet(const uint8_t *sheet, size_t sheet_len, uint8_t *times,
+                                               size_t times_len);
 
-/* The entries below answer one number each: answer & 0xFF is 0, or the number of the refusal, 1 to 99; answer >> 8 is the detail. The detail
- * of refusals 7, 9, 10 and 11 is the task in bits 0 to 7, that of the others is 0. The detail of success stands with each entry. The
- * functions further down take answers apart, so that no caller has to. */
+/* Every entry below answers one number: answer & 0xFF is 0, or the number of the refusal, 1 to 99; answer >> 8 is the
+ * detail. The detail of refusals 7, 9, 10 and 11 is the task in bits 0 to 7, that of the others is 0. The detail of
+ * success stands with each entry. The functions further down take answers apart, so that no caller has to. */
 
-/* Reads a sheet of n tasks into the first n records of list. The detail is n in bits 0 to 7 and the policy in bits 8 to 15; the bits above
- * are 0 and kept for later. Refuses as the sheet says, last 12: list_len is below n. */
-BURRBEECH_ENTRY uint64_t burrbeech_read_list(const uint8_t *sheet, size_t sheet_len, struct burrbeech_task *list, size_t list_len);
+/* Reads a sheet of n tasks into the first n records of list.
+ * The detail is n in bits 0 to 7 and the policy in bits 8 to 15; the bits above are 0 and kept for later.
+ * Refuses as the sheet says, last 12: list_len is below n. */
+BURRBEECH_ENTRY uint64_t burrbeech_read_list(const uint8_t *sheet, size_t sheet_len, struct burrbeech_task *list,
+                                             size_t list_len);
 
-/* Writes the set of all list_len records as a sheet, whole, with its check word. The detail is the number of bytes written. Refuses with 4, 6,
- * 7, 9, 10 and 11 as the list says, last 12: sheet_len is below the sheet's length. */
-BURRBEECH_ENTRY uint64_t burrbeech_write_list(uint32_t policy, const struct burrbeech_task *list, size_t list_len, uint8_t *sheet, size_t sheet_len);
+/* Writes the set of all list_len records as a sheet, with its check word.
+ * The detail is the number of bytes written.
+ * Refuses with 4, 6, 7, 9, 10 and 11 as the set says, last 12: sheet_len is below the sheet's length. */
+BURRBEECH_ENTRY uint64_t burrbeech_write_list(uint32_t policy, const struct burrbeech_task *list, size_t list_len,
+                                              uint8_t *sheet, size_t sheet_len);
 
-/* Analyses the set of all n = list_len records and writes the response times to the first 8 * n numbers of times: eight for each task in
- * task-number order, frame by frame; 0 in a slot without a frame, and in all eight slots of a task that does not pass. The detail is the
- * outcome in bits 0 to 15, 0 if the set holds and 1 + 17 * p + b if task p misses with blocker b (16 for none), and n in bits 16 to 23.
- * Refuses with 4, 6, 7, 9, 10 and 11 as the list says, last 12: times_len is below 8 * n. */
-BURRBEECH_ENTRY uint64_t burrbeech_analyse_list(uint32_t policy, const struct burrbeech_task *list, size_t list_len, uint32_t *times, size_t times_len);
+/* Analyses the set of all n = list_len records and writes the response times to the first 8 * n numbers of times: eight
+ * for each task in task-number order, frame by frame; 0 in a slot without a frame, and in all eight slots of a task
+ * that does not pass. The detail is the outcome in bits 0 to 15, 0 if the set holds and 1 + 17 * p + b if task p misses
+ * with blocker b (16 for none), p being the first task in priority order that does not pass; and n in bits 16 to 23.
+ * Refuses with 4, 6, 7, 9, 10 and 11 as the set says, last 12: times_len is below 8 * n. */
+BURRBEECH_ENTRY uint64_t burrbeech_analyse_list(uint32_t policy, const struct burrbeech_task *list, size_t list_len,
+                                                uint32_t *times, size_t times_len);
 
-/* Analyses the set of a sheet: answer and times as burrbeech_analyse_list has them. Refuses as the sheet says, last 12: times_len is below
- * 8 * n. */
-BURRBEECH_ENTRY uint64_t burrbeech_analyse_sheet(const uint8_t *sheet, size_t sheet_len, uint32_t *times, size_t times_len);
+/* Analyses the set of a sheet of n tasks: times and detail as burrbeech_analyse_list has them.
+ * Refuses as the sheet says, last 12: times_len is below 8 * n. */
+BURRBEECH_ENTRY uint64_t burrbeech_analyse_sheet(const uint8_t *sheet, size_t sheet_len, uint32_t *times,
+                                                 size_t times_len);
 
-/* Writes the report on a sheet to text: ASCII lines, each with its line feed, and no 0 byte behind them. The detail is their length, at most
- * BURRBEECH_REPORT_MAX. A refused sheet has a report too ("refused" and the number), so that the one refusal is 12: text_len is below the
+/* Writes the report on a sheet to text: ASCII lines, each with its line feed, and no 0 byte behind them.
+ * The detail is their length, at most BURRBEECH_REPORT_MAX.
+ * A refused sheet has a report too ("refused" and the number), so that the one refusal is 12: text_len is below the
  * length. */
 BURRBEECH_ENTRY uint64_t burrbeech_report(const uint8_t *sheet, size_t sheet_len, uint8_t *text, size_t text_len);
 
-/* ---- Taking answers apart: every entry but burrbeech_check_sheet --------------------------------------------------------------------- */
+/* ---- Taking answers apart: every entry but burrbeech_check_sheet ------------------------------------------------- */
 
 /* The number of the refusal, 0 for success. */
 static inline uint32_t burrbeech_refusal(uint64_t answer)
@@ -148,8 +163,8 @@ static inline uint64_t burrbeech_detail(uint64_t answer)
 /* Whether a refusal of this number names a task. */
 static inline bool burrbeech_refusal_names_task(uint32_t refusal)
 {
-    return refusal == BURRBEECH_REFUSAL_FRAME_COUNT || refusal == BURRBEECH_REFUSAL_ILL_FORMED || refusal == BURRBEECH_REFUSAL_LOCK ||
-           refusal == BURRBEECH_REFUSAL_NOT_MONOTONIC;
+    return refusal == BURRBEECH_REFUSAL_FRAME_COUNT || refusal == BURRBEECH_REFUSAL_ILL_FORMED ||
+           refusal == BURRBEECH_REFUSAL_LOCK || refusal == BURRBEECH_REFUSAL_NOT_MONOTONIC;
 }
 
 /* The task that a refusal names; 0 where it names none. */
@@ -230,22 +245,25 @@ static inline bool burrbeech_analysed_missed(uint64_t answer)
 /* The first task in priority order that does not pass; 0 where there is no miss. */
 static inline size_t burrbeech_analysed_missed_task(uint64_t answer)
 {
-    return burrbeech_analysed_missed(answer) ? (burrbeech_analysed_outcome(answer) - 1) / (BURRBEECH_NO_BLOCKER + 1) : 0;
+    size_t outcome = burrbeech_analysed_outcome(answer);
+    return outcome == 0 ? 0 : (outcome - 1) / (BURRBEECH_NO_BLOCKER + 1);
 }
 
 /* The blocker of that task, or BURRBEECH_NO_BLOCKER; this one also where there is no miss. */
 static inline size_t burrbeech_analysed_missed_blocker(uint64_t answer)
 {
-    return burrbeech_analysed_missed(answer) ? (burrbeech_analysed_outcome(answer) - 1) % (BURRBEECH_NO_BLOCKER + 1) : BURRBEECH_NO_BLOCKER;
+    size_t outcome = burrbeech_analysed_outcome(answer);
+    return outcome == 0 ? BURRBEECH_NO_BLOCKER : (outcome - 1) % (BURRBEECH_NO_BLOCKER + 1);
 }
 
-/* The response time of a frame, in the numbers that an analysis left; 0 where there is no such frame or the task does not pass. */
+/* The response time of a frame, in the numbers that an analysis left; 0 where there is no such frame or the task does
+ * not pass. */
 static inline uint32_t burrbeech_analysed_time(const uint32_t *times, size_t task, size_t frame)
 {
     return times[BURRBEECH_FRAMES_MAX * task + frame];
 }
 
-/* ---- Taking the answer of burrbeech_check_sheet apart --------------------------------------------------------------------------------- */
+/* ---- Taking the answer of burrbeech_check_sheet apart ------------------------------------------------------------ */
 
 /* Misses are numbered from here on. */
 #define BURRBEECH_CHECK_MISSES 100
@@ -277,10 +295,12 @@ static inline size_t burrbeech_check_missed_task(uint32_t answer)
 /* The blocker of that task, or BURRBEECH_NO_BLOCKER; this one also where there is no miss. */
 static inline size_t burrbeech_check_missed_blocker(uint32_t answer)
 {
-    return burrbeech_check_missed(answer) ? (answer - BURRBEECH_CHECK_MISSES) % (BURRBEECH_NO_BLOCKER + 1) : BURRBEECH_NO_BLOCKER;
+    return burrbeech_check_missed(answer) ? (answer - BURRBEECH_CHECK_MISSES) % (BURRBEECH_NO_BLOCKER + 1)
+                                          : BURRBEECH_NO_BLOCKER;
 }
 
-/* The response time of a frame, in the bytes that burrbeech_check_sheet left; 0 where there is no such frame or the task does not pass. */
+/* The response time of a frame, in the bytes that burrbeech_check_sheet left; 0 where there is no such frame or the
+ * task does not pass. */
 static inline uint32_t burrbeech_check_time(const uint8_t *times, size_t task, size_t frame)
 {
     const uint8_t *high = times + 4 * (BURRBEECH_FRAMES_MAX * task + frame);

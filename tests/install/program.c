@@ -1,5 +1,6 @@
-/* Every entry, from C, against the installed header and library: says what they answer on the sheets of cases F, G and I, in the folder that
- * is the argument. With --version it says the header's version, by its numbers and as text. */
+/* Every entry, from C, against the installed header and library: says what they answer on the sheets of cases F, G and
+ * I, in the folder that is the argument. With --version it says the header's version, by its numbers and as text; with
+ * --refusals the header's words for each number. */
 #include <burrbeech.h>
 
 #include <stdio.h>
@@ -32,7 +33,8 @@ static void print_check(const struct sheet *sheet)
     if (burrbeech_check_refusal(answer) != 0) {
         printf("%s checked: refused %u\n", sheet->name, (unsigned)burrbeech_check_refusal(answer));
     } else if (burrbeech_check_missed(answer)) {
-        printf("%s checked: missed %zu %zu\n", sheet->name, burrbeech_check_missed_task(answer), burrbeech_check_missed_blocker(answer));
+        printf("%s checked: missed %zu %zu\n", sheet->name, burrbeech_check_missed_task(answer),
+               burrbeech_check_missed_blocker(answer));
     } else {
         printf("%s checked: holds, %u in task 1\n", sheet->name, (unsigned)burrbeech_check_time(times, 1, 0));
     }
@@ -64,7 +66,8 @@ static void print_lists(const struct sheet *sheet)
     uint64_t answer = burrbeech_read_list(sheet->bytes, sheet->len, list, BURRBEECH_TASKS_MAX);
     size_t tasks = burrbeech_read_tasks(answer);
     uint32_t policy = burrbeech_read_policy(answer);
-    printf("%s read: refusal %u, %zu tasks, policy %u\n", sheet->name, (unsigned)burrbeech_refusal(answer), tasks, (unsigned)policy);
+    printf("%s read: refusal %u, %zu tasks, policy %u\n", sheet->name, (unsigned)burrbeech_refusal(answer), tasks,
+           (unsigned)policy);
     print_analysis(sheet->name, "list", burrbeech_analyse_list(policy, list, tasks, times, BURRBEECH_TIMES_MAX), times);
     size_t written = burrbeech_written_bytes(burrbeech_write_list(policy, list, tasks, back, sizeof back));
     bool same = written == sheet->len && memcmp(back, sheet->bytes, written) == 0;
@@ -76,26 +79,42 @@ static void print_sheet(const struct sheet *sheet)
     uint32_t times[BURRBEECH_TIMES_MAX];
     uint8_t text[BURRBEECH_REPORT_MAX];
     print_check(sheet);
-    print_analysis(sheet->name, "sheet", burrbeech_analyse_sheet(sheet->bytes, sheet->len, times, BURRBEECH_TIMES_MAX), times);
+    print_analysis(sheet->name, "sheet", burrbeech_analyse_sheet(sheet->bytes, sheet->len, times, BURRBEECH_TIMES_MAX),
+                   times);
     print_lists(sheet);
     size_t length = burrbeech_report_length(burrbeech_report(sheet->bytes, sheet->len, text, sizeof text));
     fwrite(text, 1, length, stdout);
 }
 
-int main(int argc, char **argv)
+static void print_sheets(const char *folder)
 {
     struct sheet sheets[3] = {{"f", {0}, 0}, {"g", {0}, 0}, {"i", {0}, 0}};
+    for (size_t i = 0; i < 3; i++) {
+        read_sheet(folder, &sheets[i]);
+        print_sheet(&sheets[i]);
+    }
+}
+
+static void print_refusals(void)
+{
+    for (uint32_t refusal = BURRBEECH_REFUSAL_LENGTH; refusal <= BURRBEECH_REFUSAL_ROOM; refusal++) {
+        printf("%u %s\n", (unsigned)refusal, burrbeech_refusal_words(refusal));
+    }
+}
+
+int main(int argc, char **argv)
+{
     if (argc != 2) {
-        fprintf(stderr, "program SHEETS | --version\n");
+        fprintf(stderr, "program SHEETS | --version | --refusals\n");
         return 3;
     }
     if (strcmp(argv[1], "--version") == 0) {
-        printf("%d.%d.%d %s\n", BURRBEECH_VERSION_MAJOR, BURRBEECH_VERSION_MINOR, BURRBEECH_VERSION_PATCH, BURRBEECH_VERSION);
-        return 0;
-    }
-    for (size_t i = 0; i < 3; i++) {
-        read_sheet(argv[1], &sheets[i]);
-        print_sheet(&sheets[i]);
+        printf("%d.%d.%d %s\n", BURRBEECH_VERSION_MAJOR, BURRBEECH_VERSION_MINOR, BURRBEECH_VERSION_PATCH,
+               BURRBEECH_VERSION);
+    } else if (strcmp(argv[1], "--refusals") == 0) {
+        print_refusals();
+    } else {
+        print_sheets(argv[1]);
     }
     return fflush(stdout) == 0 ? 0 : 3;
 }

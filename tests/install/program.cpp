@@ -23,7 +23,8 @@ static void print_check(const std::string &name, const Bytes &sheet)
     if (burrbeech_check_refusal(answer) != 0) {
         std::cout << "refused " << burrbeech_check_refusal(answer) << "\n";
     } else if (burrbeech_check_missed(answer)) {
-        std::cout << "missed " << burrbeech_check_missed_task(answer) << " " << burrbeech_check_missed_blocker(answer) << "\n";
+        std::cout << "missed " << burrbeech_check_missed_task(answer) << " " << burrbeech_check_missed_blocker(answer)
+                  << "\n";
     } else {
         std::cout << "holds, " << burrbeech_check_time(times.data(), 1, 0) << " in task 1\n";
     }
@@ -37,7 +38,8 @@ static void print_analysis(const std::string &name, uint64_t answer, const std::
         return;
     }
     if (burrbeech_analysed_missed(answer)) {
-        std::cout << "missed " << burrbeech_analysed_missed_task(answer) << " " << burrbeech_analysed_missed_blocker(answer) << ",";
+        std::cout << "missed " << burrbeech_analysed_missed_task(answer) << " "
+                  << burrbeech_analysed_missed_blocker(answer) << ",";
     } else {
         std::cout << "holds,";
     }
@@ -55,10 +57,14 @@ static void print_lists(const std::string &name, const Bytes &sheet)
     uint64_t answer = burrbeech_read_list(sheet.data(), sheet.size(), list.data(), list.size());
     list.resize(burrbeech_read_tasks(answer));
     uint32_t policy = burrbeech_read_policy(answer);
-    std::cout << name << " read: refusal " << burrbeech_refusal(answer) << ", " << list.size() << " tasks, policy " << policy << "\n";
-    print_analysis(name + " list", burrbeech_analyse_list(policy, list.data(), list.size(), times.data(), times.size()), times);
-    back.resize(burrbeech_written_bytes(burrbeech_write_list(policy, list.data(), list.size(), back.data(), back.size())));
-    std::cout << name << " written: " << back.size() << " bytes, " << (back == sheet ? "the same" : "other ones") << "\n";
+    std::cout << name << " read: refusal " << burrbeech_refusal(answer) << ", " << list.size() << " tasks, policy "
+              << policy << "\n";
+    print_analysis(name + " list", burrbeech_analyse_list(policy, list.data(), list.size(), times.data(), times.size()),
+                   times);
+    back.resize(
+        burrbeech_written_bytes(burrbeech_write_list(policy, list.data(), list.size(), back.data(), back.size())));
+    std::cout << name << " written: " << back.size() << " bytes, " << (back == sheet ? "the same" : "other ones")
+              << "\n";
 }
 
 int main(int argc, char **argv)
@@ -70,9 +76,11 @@ int main(int argc, char **argv)
         std::vector<uint32_t> times(BURRBEECH_TIMES_MAX);
         std::string text(BURRBEECH_REPORT_MAX, '\0');
         print_check(name, sheet);
-        print_analysis(name + " sheet", burrbeech_analyse_sheet(sheet.data(), sheet.size(), times.data(), times.size()), times);
+        print_analysis(name + " sheet", burrbeech_analyse_sheet(sheet.data(), sheet.size(), times.data(), times.size()),
+                       times);
         print_lists(name, sheet);
-        uint64_t answer = burrbeech_report(sheet.data(), sheet.size(), reinterpret_cast<uint8_t *>(&text[0]), text.size());
+        uint64_t answer =
+            burrbeech_report(sheet.data(), sheet.size(), reinterpret_cast<uint8_t *>(&text[0]), text.size());
         std::cout << text.substr(0, burrbeech_report_length(answer));
     }
     return std::cout.flush() ? 0 : 3;

@@ -14,9 +14,11 @@ static uint64_t refused(uint32_t number, uint64_t task)
 /* A refusal is no success of any entry: nothing was read, written or analysed. */
 static bool says_nothing_else(uint64_t answer)
 {
-    return burrbeech_read_tasks(answer) == 0 && burrbeech_read_policy(answer) == 0 && burrbeech_written_bytes(answer) == 0 &&
-           burrbeech_report_length(answer) == 0 && burrbeech_analysed_tasks(answer) == 0 && burrbeech_analysed_outcome(answer) == 0 &&
-           !burrbeech_analysed_holds(answer) && !burrbeech_analysed_missed(answer) && burrbeech_analysed_missed_task(answer) == 0 &&
+    return burrbeech_read_tasks(answer) == 0 && burrbeech_read_policy(answer) == 0 &&
+           burrbeech_written_bytes(answer) == 0 && burrbeech_report_length(answer) == 0 &&
+           burrbeech_analysed_tasks(answer) == 0 && burrbeech_analysed_outcome(answer) == 0 &&
+           !burrbeech_analysed_holds(answer) && !burrbeech_analysed_missed(answer) &&
+           burrbeech_analysed_missed_task(answer) == 0 &&
            burrbeech_analysed_missed_blocker(answer) == BURRBEECH_NO_BLOCKER;
 }
 
@@ -27,7 +29,8 @@ static bool refusals(void)
         for (size_t task = 0; task < (names ? BURRBEECH_TASKS_MAX : 1); task++) {
             uint64_t answer = refused(number, task);
             if (burrbeech_refusal(answer) != number || burrbeech_refusal_names_task(number) != names ||
-                burrbeech_refusal_task(answer) != task || burrbeech_detail(answer) != task || !says_nothing_else(answer)) {
+                burrbeech_refusal_task(answer) != task || burrbeech_detail(answer) != task ||
+                !says_nothing_else(answer)) {
                 return false;
             }
         }
@@ -40,7 +43,8 @@ static bool lists_read(void)
     for (uint32_t policy = 0; policy <= 2; policy++) {
         for (size_t tasks = 1; tasks <= BURRBEECH_TASKS_MAX; tasks++) {
             uint64_t answer = success(tasks | (uint64_t)policy << 8);
-            if (burrbeech_refusal(answer) != 0 || burrbeech_read_tasks(answer) != tasks || burrbeech_read_policy(answer) != policy) {
+            if (burrbeech_refusal(answer) != 0 || burrbeech_read_tasks(answer) != tasks ||
+                burrbeech_read_policy(answer) != policy) {
                 return false;
             }
         }
@@ -52,7 +56,8 @@ static bool lengths(void)
 {
     for (size_t bytes = 0; bytes <= BURRBEECH_REPORT_MAX; bytes++) {
         uint64_t answer = success(bytes);
-        if (burrbeech_refusal(answer) != 0 || burrbeech_written_bytes(answer) != bytes || burrbeech_report_length(answer) != bytes) {
+        if (burrbeech_refusal(answer) != 0 || burrbeech_written_bytes(answer) != bytes ||
+            burrbeech_report_length(answer) != bytes) {
             return false;
         }
     }
@@ -66,8 +71,9 @@ static bool one_miss(size_t p, size_t b, size_t tasks)
     uint32_t checked = (uint32_t)(100 + 17 * p + b);
     return burrbeech_refusal(answer) == 0 && !burrbeech_analysed_holds(answer) && burrbeech_analysed_missed(answer) &&
            burrbeech_analysed_missed_task(answer) == p && burrbeech_analysed_missed_blocker(answer) == b &&
-           burrbeech_analysed_tasks(answer) == tasks && !burrbeech_check_holds(checked) && burrbeech_check_refusal(checked) == 0 &&
-           burrbeech_check_missed(checked) && burrbeech_check_missed_task(checked) == p && burrbeech_check_missed_blocker(checked) == b;
+           burrbeech_analysed_tasks(answer) == tasks && !burrbeech_check_holds(checked) &&
+           burrbeech_check_refusal(checked) == 0 && burrbeech_check_missed(checked) &&
+           burrbeech_check_missed_task(checked) == p && burrbeech_check_missed_blocker(checked) == b;
 }
 
 static bool misses(void)
@@ -85,7 +91,8 @@ static bool sets_that_hold(void)
 {
     for (size_t tasks = 1; tasks <= BURRBEECH_TASKS_MAX; tasks++) {
         uint64_t answer = success((uint64_t)tasks << 16);
-        if (!burrbeech_analysed_holds(answer) || burrbeech_analysed_missed(answer) || burrbeech_analysed_tasks(answer) != tasks ||
+        if (!burrbeech_analysed_holds(answer) || burrbeech_analysed_missed(answer) ||
+            burrbeech_analysed_tasks(answer) != tasks ||
             burrbeech_analysed_missed_blocker(answer) != BURRBEECH_NO_BLOCKER) {
             return false;
         }
@@ -96,7 +103,8 @@ static bool sets_that_hold(void)
 static bool refusals_of_a_check(void)
 {
     for (uint32_t number = 1; number <= 12; number++) {
-        if (burrbeech_check_holds(number) || burrbeech_check_missed(number) || burrbeech_check_refusal(number) != number ||
+        if (burrbeech_check_holds(number) || burrbeech_check_missed(number) ||
+            burrbeech_check_refusal(number) != number ||
             burrbeech_check_missed_blocker(number) != BURRBEECH_NO_BLOCKER) {
             return false;
         }

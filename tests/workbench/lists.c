@@ -1,5 +1,5 @@
-/* The entries on lent task records, from C: a workbench reads a sheet into its own array, changes it, analyses it and writes it back. Tries
- * them on case F, in the folder of the case sheets that is the argument. */
+/* The entries on lent task records, from C: a workbench reads a sheet into its own array, changes it, analyses it and
+ * writes it back. Tries them on case F, in the folder of the case sheets that is the argument. */
 #include "expect.h"
 
 /* Two more than case F has. */
@@ -9,7 +9,8 @@ static struct burrbeech_task list[ROOM];
 static uint32_t times[BURRBEECH_TIMES_MAX];
 static uint8_t back[BURRBEECH_SHEET_MAX];
 
-static bool same_record(const struct burrbeech_task *task, uint32_t period, uint32_t deadline, uint32_t lock, uint32_t frame)
+static bool same_record(const struct burrbeech_task *task, uint32_t period, uint32_t deadline, uint32_t lock,
+                        uint32_t frame)
 {
     struct burrbeech_task expected = {period, deadline, lock, 1, {frame, 0, 0, 0, 0, 0, 0, 0}};
     return memcmp(task, &expected, sizeof expected) == 0;
@@ -36,15 +37,18 @@ static uint64_t write_back(uint32_t policy, size_t tasks, size_t room)
 static void try_read(const struct sheet *f, const struct sheet *i)
 {
     memset(list, BEFORE, sizeof list);
-    expect("read: a list of one record is too short", burrbeech_read_list(f->bytes, f->len, list, 1) == BURRBEECH_REFUSAL_ROOM && untouched(list, sizeof list));
-    expect("read: no list (NULL, 0) is too short", burrbeech_read_list(f->bytes, f->len, NULL, 0) == BURRBEECH_REFUSAL_ROOM);
+    expect("read: a list of one record is too short",
+           burrbeech_read_list(f->bytes, f->len, list, 1) == BURRBEECH_REFUSAL_ROOM && untouched(list, sizeof list));
+    expect("read: no list (NULL, 0) is too short",
+           burrbeech_read_list(f->bytes, f->len, NULL, 0) == BURRBEECH_REFUSAL_ROOM);
     expect("read: no sheet (NULL, 0) is refused with 1",
            burrbeech_read_list(NULL, 0, list, ROOM) == BURRBEECH_REFUSAL_LENGTH && untouched(list, sizeof list));
     expect("read: I is refused with 11, task 0",
-           refused(burrbeech_read_list(i->bytes, i->len, list, ROOM), BURRBEECH_REFUSAL_NOT_MONOTONIC, 0) && untouched(list, sizeof list));
+           refused(burrbeech_read_list(i->bytes, i->len, list, ROOM), BURRBEECH_REFUSAL_NOT_MONOTONIC, 0) &&
+               untouched(list, sizeof list));
     uint64_t answer = burrbeech_read_list(f->bytes, f->len, list, ROOM);
-    expect("read: F, two tasks, listed",
-           burrbeech_refusal(answer) == 0 && burrbeech_read_tasks(answer) == 2 && burrbeech_read_policy(answer) == BURRBEECH_POLICY_LISTED);
+    expect("read: F, two tasks, listed", burrbeech_refusal(answer) == 0 && burrbeech_read_tasks(answer) == 2 &&
+                                             burrbeech_read_policy(answer) == BURRBEECH_POLICY_LISTED);
     expect("read: its records", same_record(&list[0], 10, 4, 0, 2) && same_record(&list[1], 20, 20, 3, 5));
     expect("read: surplus records stay", untouched(&list[2], 2 * sizeof *list));
 }
@@ -53,19 +57,23 @@ static void try_analyse(void)
 {
     uint64_t answer = analyse(BURRBEECH_POLICY_LISTED, 2, BURRBEECH_TIMES_MAX);
     expect("analyse: F holds, two tasks, 4 and 7",
-           burrbeech_analysed_holds(answer) && burrbeech_analysed_tasks(answer) == 2 && burrbeech_analysed_time(times, 0, 0) == 4 &&
-               burrbeech_analysed_time(times, 0, 1) == 0 && burrbeech_analysed_time(times, 1, 0) == 7);
+           burrbeech_analysed_holds(answer) && burrbeech_analysed_tasks(answer) == 2 &&
+               burrbeech_analysed_time(times, 0, 0) == 4 && burrbeech_analysed_time(times, 0, 1) == 0 &&
+               burrbeech_analysed_time(times, 1, 0) == 7);
     expect("analyse: surplus numbers stay", untouched(times + 16, sizeof times - 16 * sizeof *times));
     expect("analyse: room that just fits", burrbeech_analysed_holds(analyse(BURRBEECH_POLICY_LISTED, 2, 16)));
     expect("analyse: one number short is refused with 12",
            analyse(BURRBEECH_POLICY_LISTED, 2, 15) == BURRBEECH_REFUSAL_ROOM && untouched(times, sizeof times));
-    expect("analyse: no record (NULL, 0) is refused with 6", burrbeech_analyse_list(0, NULL, 0, times, BURRBEECH_TIMES_MAX) == BURRBEECH_REFUSAL_TASK_COUNT);
-    expect("analyse: policy 3 is refused with 4", analyse(3, 2, BURRBEECH_TIMES_MAX) == BURRBEECH_REFUSAL_POLICY && untouched(times, sizeof times));
+    expect("analyse: no record (NULL, 0) is refused with 6",
+           burrbeech_analyse_list(0, NULL, 0, times, BURRBEECH_TIMES_MAX) == BURRBEECH_REFUSAL_TASK_COUNT);
+    expect("analyse: policy 3 is refused with 4",
+           analyse(3, 2, BURRBEECH_TIMES_MAX) == BURRBEECH_REFUSAL_POLICY && untouched(times, sizeof times));
     list[1].lock = 4;
     answer = analyse(BURRBEECH_POLICY_LISTED, 2, BURRBEECH_TIMES_MAX);
     expect("analyse: with a lock of 4 task 0 misses, blocker 1; task 1 has 7",
-           burrbeech_analysed_missed(answer) && burrbeech_analysed_missed_task(answer) == 0 && burrbeech_analysed_missed_blocker(answer) == 1 &&
-               burrbeech_analysed_time(times, 0, 0) == 0 && burrbeech_analysed_time(times, 1, 0) == 7);
+           burrbeech_analysed_missed(answer) && burrbeech_analysed_missed_task(answer) == 0 &&
+               burrbeech_analysed_missed_blocker(answer) == 1 && burrbeech_analysed_time(times, 0, 0) == 0 &&
+               burrbeech_analysed_time(times, 1, 0) == 7);
     list[1].lock = 3;
 }
 
@@ -74,19 +82,25 @@ static void try_write(const struct sheet *f)
     uint64_t answer = write_back(BURRBEECH_POLICY_LISTED, 2, sizeof back);
     expect("write: the same bytes", burrbeech_written_bytes(answer) == f->len && memcmp(back, f->bytes, f->len) == 0);
     expect("write: surplus bytes stay", untouched(back + f->len, sizeof back - f->len));
-    expect("write: room that just fits", burrbeech_written_bytes(write_back(BURRBEECH_POLICY_LISTED, 2, f->len)) == f->len);
+    expect("write: room that just fits",
+           burrbeech_written_bytes(write_back(BURRBEECH_POLICY_LISTED, 2, f->len)) == f->len);
     expect("write: one byte short is refused with 12",
-           write_back(BURRBEECH_POLICY_LISTED, 2, f->len - 1) == BURRBEECH_REFUSAL_ROOM && untouched(back, sizeof back));
-    expect("write: no room (NULL, 0) is refused with 12", burrbeech_write_list(0, list, 2, NULL, 0) == BURRBEECH_REFUSAL_ROOM);
-    expect("write: no record (NULL, 0) is refused with 6", burrbeech_write_list(0, NULL, 0, back, sizeof back) == BURRBEECH_REFUSAL_TASK_COUNT);
+           write_back(BURRBEECH_POLICY_LISTED, 2, f->len - 1) == BURRBEECH_REFUSAL_ROOM &&
+               untouched(back, sizeof back));
+    expect("write: no room (NULL, 0) is refused with 12",
+           burrbeech_write_list(0, list, 2, NULL, 0) == BURRBEECH_REFUSAL_ROOM);
+    expect("write: no record (NULL, 0) is refused with 6",
+           burrbeech_write_list(0, NULL, 0, back, sizeof back) == BURRBEECH_REFUSAL_TASK_COUNT);
 }
 
 /* Each refusal that names a task, of task 1; the analysis and the writer refuse alike and change nothing. */
 static void try_task(const char *what, struct burrbeech_task changed, uint32_t number)
 {
     list[1] = changed;
-    expect(what, refused(analyse(BURRBEECH_POLICY_LISTED, 2, BURRBEECH_TIMES_MAX), number, 1) && untouched(times, sizeof times) &&
-                     refused(write_back(BURRBEECH_POLICY_LISTED, 2, sizeof back), number, 1) && untouched(back, sizeof back));
+    expect(what, refused(analyse(BURRBEECH_POLICY_LISTED, 2, BURRBEECH_TIMES_MAX), number, 1) &&
+                     untouched(times, sizeof times) &&
+                     refused(write_back(BURRBEECH_POLICY_LISTED, 2, sizeof back), number, 1) &&
+                     untouched(back, sizeof back));
 }
 
 int main(int argc, char **argv)
@@ -99,10 +113,15 @@ int main(int argc, char **argv)
     try_read(&f, &i);
     try_analyse();
     try_write(&f);
-    try_task("no frame is refused with 7, task 1", (struct burrbeech_task){20, 20, 3, 0, {5}}, BURRBEECH_REFUSAL_FRAME_COUNT);
-    try_task("nine frames are refused with 7, task 1", (struct burrbeech_task){20, 20, 3, 9, {5}}, BURRBEECH_REFUSAL_FRAME_COUNT);
-    try_task("a deadline past the period is refused with 9, task 1", (struct burrbeech_task){20, 21, 3, 1, {5}}, BURRBEECH_REFUSAL_ILL_FORMED);
-    try_task("a lock above the largest frame is refused with 10, task 1", (struct burrbeech_task){20, 20, 6, 1, {5}}, BURRBEECH_REFUSAL_LOCK);
-    try_task("frames 1, 2, 3 are refused with 11, task 1", (struct burrbeech_task){20, 20, 0, 3, {1, 2, 3}}, BURRBEECH_REFUSAL_NOT_MONOTONIC);
+    try_task("no frame is refused with 7, task 1", (struct burrbeech_task){20, 20, 3, 0, {5}},
+             BURRBEECH_REFUSAL_FRAME_COUNT);
+    try_task("nine frames are refused with 7, task 1", (struct burrbeech_task){20, 20, 3, 9, {5}},
+             BURRBEECH_REFUSAL_FRAME_COUNT);
+    try_task("a deadline past the period is refused with 9, task 1", (struct burrbeech_task){20, 21, 3, 1, {5}},
+             BURRBEECH_REFUSAL_ILL_FORMED);
+    try_task("a lock above the largest frame is refused with 10, task 1", (struct burrbeech_task){20, 20, 6, 1, {5}},
+             BURRBEECH_REFUSAL_LOCK);
+    try_task("frames 1, 2, 3 are refused with 11, task 1", (struct burrbeech_task){20, 20, 0, 3, {1, 2, 3}},
+             BURRBEECH_REFUSAL_NOT_MONOTONIC);
     return finished();
 }

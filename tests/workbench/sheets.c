@@ -1,5 +1,5 @@
-/* The entries on sheets, from C: burrbeech_check_sheet, burrbeech_analyse_sheet and burrbeech_report on the case sheets, in the folder that
- * is the argument. */
+/* The entries on sheets, from C: burrbeech_check_sheet, burrbeech_analyse_sheet and burrbeech_report on the case
+ * sheets, in the folder that is the argument. */
 #include "expect.h"
 
 /* Case F with a deadline of 21 ticks in task 1, one past its period, and a right check word. */
@@ -34,7 +34,8 @@ static uint64_t report(const struct sheet *sheet, size_t room)
 static bool checked_times(uint32_t first, uint32_t second)
 {
     for (size_t frame = 0; frame < BURRBEECH_FRAMES_MAX; frame++) {
-        if (burrbeech_check_time(bytes, 0, frame) != (frame == 0 ? first : 0) || burrbeech_check_time(bytes, 1, frame) != (frame == 0 ? second : 0)) {
+        if (burrbeech_check_time(bytes, 0, frame) != (frame == 0 ? first : 0) ||
+            burrbeech_check_time(bytes, 1, frame) != (frame == 0 ? second : 0)) {
             return false;
         }
     }
@@ -56,8 +57,8 @@ static bool analysed_times(uint32_t first, uint32_t second)
 static bool reported(uint64_t answer, const char *expected)
 {
     size_t length = strlen(expected);
-    return burrbeech_refusal(answer) == 0 && burrbeech_report_length(answer) == length && memcmp(text, expected, length) == 0 &&
-           untouched(text + length, sizeof text - length);
+    return burrbeech_refusal(answer) == 0 && burrbeech_report_length(answer) == length &&
+           memcmp(text, expected, length) == 0 && untouched(text + length, sizeof text - length);
 }
 
 static void try_check(const struct sheet *f, const struct sheet *g, const struct sheet *bent)
@@ -68,26 +69,35 @@ static void try_check(const struct sheet *f, const struct sheet *g, const struct
            burrbeech_check_refusal(check(f, 63)) == BURRBEECH_REFUSAL_ROOM && untouched(bytes, sizeof bytes));
     uint32_t answer = check(g, sizeof bytes);
     expect("check: G misses, task 0, blocker 1; task 1 has 7",
-           answer == 101 && burrbeech_check_missed_task(answer) == 0 && burrbeech_check_missed_blocker(answer) == 1 && checked_times(0, 7));
+           answer == 101 && burrbeech_check_missed_task(answer) == 0 && burrbeech_check_missed_blocker(answer) == 1 &&
+               checked_times(0, 7));
     expect("check: a changed bit is refused with 2",
-           burrbeech_check_refusal(check(bent, sizeof bytes)) == BURRBEECH_REFUSAL_CHECK_WORD && untouched(bytes, sizeof bytes));
+           burrbeech_check_refusal(check(bent, sizeof bytes)) == BURRBEECH_REFUSAL_CHECK_WORD &&
+               untouched(bytes, sizeof bytes));
     expect("check: no sheet (NULL, 0) is refused with 1",
-           burrbeech_check_sheet(NULL, 0, bytes, sizeof bytes) == BURRBEECH_REFUSAL_LENGTH && untouched(bytes, sizeof bytes));
-    expect("check: no room (NULL, 0) is refused with 12", burrbeech_check_sheet(f->bytes, f->len, NULL, 0) == BURRBEECH_REFUSAL_ROOM);
-    expect("check: nothing at all is refused with 1", burrbeech_check_sheet(NULL, 0, NULL, 0) == BURRBEECH_REFUSAL_LENGTH);
-    expect("check: 453 bytes are refused with 1", burrbeech_check_sheet(f->bytes, sizeof f->bytes, bytes, sizeof bytes) == BURRBEECH_REFUSAL_LENGTH);
+           burrbeech_check_sheet(NULL, 0, bytes, sizeof bytes) == BURRBEECH_REFUSAL_LENGTH &&
+               untouched(bytes, sizeof bytes));
+    expect("check: no room (NULL, 0) is refused with 12",
+           burrbeech_check_sheet(f->bytes, f->len, NULL, 0) == BURRBEECH_REFUSAL_ROOM);
+    expect("check: nothing at all is refused with 1",
+           burrbeech_check_sheet(NULL, 0, NULL, 0) == BURRBEECH_REFUSAL_LENGTH);
+    expect("check: 453 bytes are refused with 1",
+           burrbeech_check_sheet(f->bytes, sizeof f->bytes, bytes, sizeof bytes) == BURRBEECH_REFUSAL_LENGTH);
 }
 
 static void try_analyse(const struct sheet *f, const struct sheet *g, const struct sheet *d)
 {
     uint64_t answer = analyse(f, BURRBEECH_TIMES_MAX);
-    expect("analyse: F holds, two tasks, 4 and 7", burrbeech_analysed_holds(answer) && burrbeech_analysed_tasks(answer) == 2 && analysed_times(4, 7));
+    expect("analyse: F holds, two tasks, 4 and 7",
+           burrbeech_analysed_holds(answer) && burrbeech_analysed_tasks(answer) == 2 && analysed_times(4, 7));
     expect("analyse: F in room that just fits", burrbeech_analysed_holds(analyse(f, 16)) && analysed_times(4, 7));
-    expect("analyse: F in room one number short is refused with 12", analyse(f, 15) == BURRBEECH_REFUSAL_ROOM && untouched(numbers, sizeof numbers));
+    expect("analyse: F in room one number short is refused with 12",
+           analyse(f, 15) == BURRBEECH_REFUSAL_ROOM && untouched(numbers, sizeof numbers));
     answer = analyse(g, BURRBEECH_TIMES_MAX);
     expect("analyse: G misses, two tasks, task 0, blocker 1; task 1 has 7",
-           burrbeech_analysed_missed(answer) && burrbeech_analysed_tasks(answer) == 2 && burrbeech_analysed_missed_task(answer) == 0 &&
-               burrbeech_analysed_missed_blocker(answer) == 1 && analysed_times(0, 7));
+           burrbeech_analysed_missed(answer) && burrbeech_analysed_tasks(answer) == 2 &&
+               burrbeech_analysed_missed_task(answer) == 0 && burrbeech_analysed_missed_blocker(answer) == 1 &&
+               analysed_times(0, 7));
     answer = analyse(d, BURRBEECH_TIMES_MAX);
     expect("analyse: D misses, task 1, no blocker; task 0 has 3",
            burrbeech_analysed_missed(answer) && burrbeech_analysed_missed_task(answer) == 1 &&
@@ -97,15 +107,19 @@ static void try_analyse(const struct sheet *f, const struct sheet *g, const stru
 static void try_refused(const struct sheet *f, const struct sheet *i)
 {
     uint64_t answer = analyse(i, BURRBEECH_TIMES_MAX);
-    expect("analyse: I is refused with 11, task 0",
-           burrbeech_refusal(answer) == BURRBEECH_REFUSAL_NOT_MONOTONIC && burrbeech_refusal_task(answer) == 0 && untouched(numbers, sizeof numbers));
+    expect("analyse: I is refused with 11, task 0", burrbeech_refusal(answer) == BURRBEECH_REFUSAL_NOT_MONOTONIC &&
+                                                        burrbeech_refusal_task(answer) == 0 &&
+                                                        untouched(numbers, sizeof numbers));
     answer = burrbeech_analyse_sheet(late, sizeof late, numbers, BURRBEECH_TIMES_MAX);
     expect("analyse: a deadline past the period is refused with 9, task 1",
-           burrbeech_refusal(answer) == BURRBEECH_REFUSAL_ILL_FORMED && burrbeech_refusal_task(answer) == 1 && untouched(numbers, sizeof numbers));
+           burrbeech_refusal(answer) == BURRBEECH_REFUSAL_ILL_FORMED && burrbeech_refusal_task(answer) == 1 &&
+               untouched(numbers, sizeof numbers));
     expect("analyse: that comes before the room", burrbeech_analyse_sheet(late, sizeof late, NULL, 0) == answer);
     expect("analyse: no sheet (NULL, 0) is refused with 1",
-           burrbeech_analyse_sheet(NULL, 0, numbers, BURRBEECH_TIMES_MAX) == BURRBEECH_REFUSAL_LENGTH && untouched(numbers, sizeof numbers));
-    expect("analyse: no room (NULL, 0) is refused with 12", burrbeech_analyse_sheet(f->bytes, f->len, NULL, 0) == BURRBEECH_REFUSAL_ROOM);
+           burrbeech_analyse_sheet(NULL, 0, numbers, BURRBEECH_TIMES_MAX) == BURRBEECH_REFUSAL_LENGTH &&
+               untouched(numbers, sizeof numbers));
+    expect("analyse: no room (NULL, 0) is refused with 12",
+           burrbeech_analyse_sheet(f->bytes, f->len, NULL, 0) == BURRBEECH_REFUSAL_ROOM);
 }
 
 static void try_report(const struct sheet *f, const struct sheet *g, const struct sheet *i)
@@ -113,11 +127,14 @@ static void try_report(const struct sheet *f, const struct sheet *g, const struc
     size_t length = strlen(report_of_f);
     expect("report: F, byte for byte", reported(report(f, sizeof text), report_of_f));
     expect("report: F in room that just fits", reported(report(f, length), report_of_f));
-    expect("report: F in room one byte short is refused with 12", report(f, length - 1) == BURRBEECH_REFUSAL_ROOM && untouched(text, sizeof text));
-    expect("report: F with no room (NULL, 0) is refused with 12", burrbeech_report(f->bytes, f->len, NULL, 0) == BURRBEECH_REFUSAL_ROOM);
+    expect("report: F in room one byte short is refused with 12",
+           report(f, length - 1) == BURRBEECH_REFUSAL_ROOM && untouched(text, sizeof text));
+    expect("report: F with no room (NULL, 0) is refused with 12",
+           burrbeech_report(f->bytes, f->len, NULL, 0) == BURRBEECH_REFUSAL_ROOM);
     expect("report: G", reported(report(g, sizeof text), "missed 2 0 1\n0 10 4 3 missed\n1 20 20 0 7\n"));
     expect("report: I is refused, and has a report", reported(report(i, sizeof text), "refused 11\n"));
-    expect("report: of no sheet", (memset(text, BEFORE, sizeof text), reported(burrbeech_report(NULL, 0, text, sizeof text), "refused 1\n")));
+    expect("report: of no sheet",
+           (memset(text, BEFORE, sizeof text), reported(burrbeech_report(NULL, 0, text, sizeof text), "refused 1\n")));
 }
 
 int main(int argc, char **argv)
@@ -126,7 +143,8 @@ int main(int argc, char **argv)
         fprintf(stderr, "sheets SHEETS   tries the entries on the case sheets\n");
         return 2;
     }
-    struct sheet d = case_sheet(argv[1], "d"), f = case_sheet(argv[1], "f"), g = case_sheet(argv[1], "g"), i = case_sheet(argv[1], "i");
+    struct sheet d = case_sheet(argv[1], "d"), f = case_sheet(argv[1], "f"), g = case_sheet(argv[1], "g"),
+                 i = case_sheet(argv[1], "i");
     struct sheet bent = f;
     bent.bytes[bent.len - 3] ^= 1;
     try_check(&f, &g, &bent);

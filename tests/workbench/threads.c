@@ -30,7 +30,8 @@ static void read_list(struct lent *lent)
 
 static void write_list(struct lent *lent)
 {
-    lent->answer = burrbeech_write_list(lent->policy, lent->list, lent->tasks, lent->sheet.bytes, sizeof lent->sheet.bytes);
+    lent->answer =
+        burrbeech_write_list(lent->policy, lent->list, lent->tasks, lent->sheet.bytes, sizeof lent->sheet.bytes);
 }
 
 static void analyse_list(struct lent *lent)
@@ -48,12 +49,14 @@ static void report(struct lent *lent)
     lent->answer = burrbeech_report(lent->sheet.bytes, lent->sheet.len, lent->text, sizeof lent->text);
 }
 
-static void (*const entries[])(struct lent *) = {check_sheet, read_list, write_list, analyse_list, analyse_sheet, report};
-static const char *const names[] = {"check_sheet", "read_list", "write_list", "analyse_list", "analyse_sheet", "report"};
+static void (*const entries[])(struct lent *) = {check_sheet,  read_list,     write_list,
+                                                 analyse_list, analyse_sheet, report};
+static const char *const names[] = {"check_sheet",  "read_list",     "write_list",
+                                    "analyse_list", "analyse_sheet", "report"};
 enum { ENTRIES = sizeof entries / sizeof *entries };
 
-/* A set of sixteen tasks of eight equal frames, whose deadlines are their periods, and its sheet. The first task has a period of its own, and
- * frames no longer than that. */
+/* A set of sixteen tasks of eight equal frames, whose deadlines are their periods, and its sheet. The first task has a
+ * period of its own, and frames no longer than that. */
 static struct lent *full_set(uint32_t first_period, uint32_t frame)
 {
     struct lent *lent = calloc(1, sizeof *lent);
