@@ -2,6 +2,7 @@
 use second::generate::{admitted_set, damaged_sheets, muddled_sheet, random_sheet};
 use second::random::Random;
 use second::{report, sheet};
+use std::fs::File;
 use std::io::Write;
 use std::process::{Command, Stdio};
 
@@ -36,6 +37,32 @@ fn inputs_of_every_size_are_answered() {
         let input = vec![0xA5; n];
         assert_eq!(proved_report(&input), report::report(&input), "{n} bytes");
     }
+}
+
+/// What a call prints on standard error; nothing may stand on standard output.
+fn complaint(command: &mut Command) -> String {
+    let out = command.stderr(Stdio::piped()).output().unwrap();
+    assert_eq!(String::from_utf8(out.stdout).unwrap(), "", "{command:?}");
+    String::from_utf8(out.stderr).unwrap()
+}
+
+#[test]
+fn no_verdict_on_what_cannot_be_read() {
+    let a_folder = complaint(Command::new(PROGRAM).stdin(File::open(SHEETS).unwrap()));
+    let closed = complaint(Command::new("sh").args(["-c", "\"$0\" <&-", PROGRAM]));
+    let named = complaint(Command::new(PROGRAM).arg(format!("{SHEETS}/f.sheet")).stdin(Stdio::null()));
+    for complaint in [&a_folder, &closed] {
+        assert!(complaint.starts_with("report: standard input cannot be read"), "{complaint}");
+    }
+    assert!(named.starts_with("report: takes no arguments"), "{named}");
+}
+
+#[test]
+fn a_full_output_is_told() {
+    let sheet = File::open(format!("{SHEETS}/f.sheet")).unwrap();
+    let full = File::options().write(true).open("/dev/full").unwrap();
+    let said = complaint(Command::new(PROGRAM).stdin(sheet).stdout(full));
+    assert!(said.starts_with("report: standard output cannot be written"), "{said}");
 }
 
 #[test]
