@@ -53,6 +53,7 @@ $(exported): $(header) Makefile
 	@mkdir -p $(@D)
 	printf '{ global: %s local: *; };\n' '$(entries:%=%;)' > $@
 
+# No start-up code: the library needs none, and has no data without it.
 target/lib/$(real): $(archive) $(exported)
 	$(CC) -shared -nostartfiles -Wl,-soname,$(soname) -Wl,--version-script,$(exported) -Wl,-z,defs,-z,text,-z,relro,-z,now \
 		-Wl,--whole-archive $(archive) -Wl,--no-whole-archive $(LDFLAGS) -o $@
