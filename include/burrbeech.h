@@ -32,7 +32,7 @@
 
 /* Limits. */
 #define BURRBEECH_SHEET_MIN 15      /* bytes of the shortest sheet */
-#define BURRBEECH_SHEET_MAX 452     /* bytes of the longest sheet; of a file read one more, so that a longer one is refused */
+#define BURRBEECH_SHEET_MAX 452     /* bytes of the longest sheet; of a file read one more, to refuse a longer one */
 #define BURRBEECH_TASKS_MAX 16      /* tasks of a set */
 #define BURRBEECH_FRAMES_MAX 8      /* frames of a task, and slots for its times */
 #define BURRBEECH_TICKS_MAX 1048575 /* the longest period, deadline, lock or frame time */
