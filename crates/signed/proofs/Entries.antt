@@ -305,10 +305,10 @@ module _ {A X : Type 0} (refused : Refusal → X) (call : Call Refusal A X) (bef
     exactly why = (λ e. sym which ∙ why-said why e, λ e. says-why why (which ∙ e))
 
 -- what is decided of tasks is no refusal, and refusals are told apart
-not-refused : (policy : ℕ) (tasks : List Task) (r : Refusal) → ¬ (decision policy tasks ≡ refused-decision r)
+pub not-refused : (policy : ℕ) (tasks : List Task) (r : Refusal) → ¬ (decision policy tasks ≡ refused-decision r)
 not-refused policy tasks r e = outcome-not-refused policy tasks r (ap (λ (d : Decision). d .outcome) e)
 
-refusals-apart : (q r : Refusal) → refused-decision q ≡ refused-decision r → q ≡ r
+pub refusals-apart : (q r : Refusal) → refused-decision q ≡ refused-decision r → q ≡ r
 refusals-apart q r e =
     let z : Refused q ≡ Refused r = ap (λ (d : Decision). d .outcome) e in
     let z : q ≡ r = cc in

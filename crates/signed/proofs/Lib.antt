@@ -3,6 +3,7 @@ pub mod Times
 pub mod Numbers
 pub mod Memory
 pub mod Entries
+pub mod Named
 pub mod Promised
 pub mod RoundTrip
 pub mod Damage

@@ -103,18 +103,22 @@ said-back (not-analysed r) h = let (l, m) = refusal-range r in refusal-said (num
 
 -- ---- every other entry
 
--- a number with a refusal in it, and one with none
-module _ (r : Refusal) where
-  with-refusal : eqb (refused-number r % 256) 0 ≡ false
-  with-refusal = let range = refusal-range r in ne-eqb (refused-number r % 256) 0 (omega arith)
+-- a refusal whose task, if it names one, has room in eight bits
+abbrev pub NamesSmall : Refusal → Type 0
+NamesSmall r = task-of-refusal r < 256
 
-  refused-back : refused-by (refused-number r) ≡ r
-  unfolding refused-by
-  refused-back =
-      let range = refusal-range r in
-      let low : refused-number r % 256 ≡ number-of r = omega arith in
-      let high : refused-number r / 256 ≡ task-of-refusal r = omega arith in
-      ap₂ refusal-by low high ∙ refusal-back r
+-- a number with a refusal in it, and one with none
+with-refusal : (r : Refusal) → eqb (refused-number r % 256) 0 ≡ false
+with-refusal r = let range = refusal-range r in ne-eqb (refused-number r % 256) 0 (omega arith)
+
+refused-back : (r : Refusal) → NamesSmall r → refused-by (refused-number r) ≡ r
+unfolding refused-by
+refused-back r h =
+    let range = refusal-range r in
+    let low : refused-number r % 256 ≡ number-of r = omega arith in
+    let above : refused-number r / 256 ≡ task-of-refusal r = omega arith in
+    let high : refused-number r / 256 % 256 ≡ task-of-refusal r = ap (λ (x : ℕ). x % 256) above ∙ mod-eq-of-lt h in
+    ap₂ refusal-by low high ∙ refusal-back r
 
 module _ (m : ℕ) where
   with-none : eqb (256 * m % 256) 0 ≡ true
@@ -123,20 +127,21 @@ module _ (m : ℕ) where
   detail : 256 * m / 256 ≡ m
   detail = omega arith
 
-pub written-back : (w : Written) → written-by (written-number w) ≡ w
+pub written-back : (w : Written) → ((why : Refusal) → w ≡ not-written why → NamesSmall why) → written-by (written-number w) ≡ w
 unfolding written-by
-written-back (Bytes n) = rw (with-none n, detail n)
-written-back (not-written r) = rw (with-refusal r) (ap not-written (refused-back r))
+written-back (Bytes n) h = rw (with-none n, detail n)
+written-back (not-written r) h = rw (with-refusal r) (ap not-written (refused-back r (h r refl)))
 
-pub read-back : (x : ListRead) → ((policy count : ℕ) → x ≡ Set policy count → (policy < 256) × (count < 256)) → list-read-by (read-number x) ≡ x
+pub read-back : (x : ListRead) → ((policy count : ℕ) → x ≡ Set policy count → (policy < 256) × (count < 256)) → ((why : Refusal) → x ≡ not-read why → NamesSmall why)
+    → list-read-by (read-number x) ≡ x
 unfolding list-read-by
-read-back (Set policy count) h =
+read-back (Set policy count) h names =
     let (known, few) = h policy count refl in
     let low : (count + 256 * policy) % 256 ≡ count = omega arith in
     let above : (count + 256 * policy) / 256 ≡ policy = omega arith in
     let high : (count + 256 * policy) / 256 % 256 ≡ policy = ap (λ (x : ℕ). x % 256) above ∙ mod-eq-of-lt known in
     rw (with-none (count + 256 * policy), detail (count + 256 * policy), low, high)
-read-back (not-read r) h = rw (with-refusal r) (ap not-read (refused-back r))
+read-back (not-read r) h names = rw (with-refusal r) (ap not-read (refused-back r (names r refl)))
 
 miss-back : (p c : ℕ) → c ≤ 16 → verdict-by (1 + 17 * p + c) ≡ Missed p (blocker-by c)
 unfolding verdict-by
@@ -157,7 +162,7 @@ analysed-back m n h l =
 unfoldable pub InBits : Outcome → ℕ → Type 0
 InBits Holds n = n < 256
 InBits (Missed p b) n = (p < most-tasks) × Few b × (n < 256)
-InBits (not-analysed why) n = n ≡ 0
+InBits (not-analysed why) n = (n ≡ 0) × NamesSmall why
 
 pub decision-back : (o : Outcome) (n : ℕ) → InBits o n → decision-by (outcome-number o n) ≡ record { outcome = o; «task_count» = n }
 unfolding decision-by InBits verdict-by
@@ -167,4 +172,4 @@ decision-back (Missed p b) n (h, few, l) =
     let m : ℕ = 1 + 17 * p + blocker-code b in
     rw (with-none (m + 65536 * n), detail (m + 65536 * n))
     (analysed-back m n (omega arith) l ∙ ap (λ (o : Outcome). record { outcome = o; «task_count» = n }) (miss-back p (blocker-code b) small ∙ ap (Missed p) same))
-decision-back (not-analysed r) n e = rw (with-refusal r) (ap₂ (λ (q : Refusal) (k : ℕ). record { outcome = not-analysed q; «task_count» = k }) (refused-back r) (sym e))
+decision-back (not-analysed r) n (e, h) = rw (with-refusal r) (ap₂ (λ (q : Refusal) (k : ℕ). record { outcome = not-analysed q; «task_count» = k }) (refused-back r h) (sym e))

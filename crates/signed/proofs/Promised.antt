@@ -10,11 +10,12 @@ use Rattle.theory.specs.Tasks.{Task, task-at, frame-count, deadline-of}
 use Rattle.lent.specs.Lent.{laid}
 use Rattle.sheet.specs.Constants.{most-tasks}
 use Rattle.sheet.specs.Refusals.{number-of}
+use Rattle.sheet.specs.declared.Refusal.{Refusal}
 use Rattle.sheet.proofs.InFields.{Each, no-task, task-more, InFields}
 use Rattle.sheet.proofs.Carried.{carried-fit}
 use Rattle.order.specs.declared.Blocker.the-variants.{At, Nobody}
 use Rattle.analysis.specs.Times.{outcome-of, times-of}
-use Rattle.analysis.specs.Answers.{code}
+use Rattle.analysis.specs.Answers.{code, refused-decision}
 use Rattle.analysis.specs.declared.Outcome.{Outcome}
 use Rattle.analysis.specs.declared.Outcome.the-variants.{Holds, Missed, Refused}
 use Rattle.analysis.specs.declared.Decision.{Decision}
@@ -23,7 +24,7 @@ use Rattle.analysis.proofs.Promises.{outcome-not-refused}
 use Rattle.signed.specs.Claims.{said, count-said, Kept, time-in, Timed, Untimed, Signed}
 use Rattle.signed.specs.Numbers.{IsNumber, it-holds, it-refuses, task-misses, task-misses-alone}
 use Rattle.signed.proofs.Times.{each, signed}
-use Rattle.signed.proofs.Numbers.{refusal-range, FewOf, InBits}
+use Rattle.signed.proofs.Numbers.{refusal-range, NamesSmall, FewOf, InBits}
 use Rattle.signed.proofs.Memory.{stored, time-laid, surplus-kept}
 use Rattle.signed.proofs.Entries.{Sound, Analysed, is-refused, is-analysed}
 
@@ -90,9 +91,10 @@ module _ {policy : ℕ} {tasks : List Task} {kept : Kept} {before : List ℕ} wh
       few-said policy tasks kept before _ (outcome-of policy tasks) (sound .carried .few-tasks) (laid-signed policy tasks sound kept before fits)
 
   -- the parts of a decision have room in their bits
-  pub in-bits : {decided : Decision} {after : List ℕ} → Analysed policy tasks kept before decided after → InBits (decided .outcome) (decided .«task_count»)
-  in-bits (is-refused why) = unfold InBits in refl
-  in-bits (is-analysed sound fits) = go (outcome-of policy tasks) refl (laid-signed policy tasks sound kept before fits)
+  pub in-bits : {decided : Decision} {after : List ℕ} → Analysed policy tasks kept before decided after
+      → ((why : Refusal) → decided ≡ refused-decision why → NamesSmall why) → InBits (decided .outcome) (decided .«task_count»)
+  in-bits (is-refused why) names = unfold InBits in (refl, names why refl)
+  in-bits (is-analysed sound fits) names = go (outcome-of policy tasks) refl (laid-signed policy tasks sound kept before fits)
     where
       go : (o : Outcome) → outcome-of policy tasks ≡ o → Signed policy tasks kept before (laid (stored kept (times-of policy tasks)) before) (said o) → InBits o (length tasks)
       go Holds e s = unfold InBits in omega (arith, sound .carried .few-tasks)

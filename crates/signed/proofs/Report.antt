@@ -10,11 +10,12 @@ use lib.Seq.{take-at, drop-at}
 use Rattle.theory.specs.Tasks.{Task, task-at, frame-count, shortest-deadline}
 use Rattle.theory.specs.Analysis.{lower, blocking, passes}
 use Rattle.lent.specs.Lent.{laid}
-use Rattle.lent.proofs.Laid.{take-laid}
+use Rattle.lent.proofs.Laid.{take-laid, laid-length}
 use Rattle.sheet.specs.Refusals.{number-of}
 use Rattle.sheet.specs.Reading.{policy-of, tasks-of}
 use Rattle.sheet.specs.declared.Refusal.{Refusal}
 use Rattle.sheet.specs.declared.Written.{Written}
+use Rattle.sheet.specs.declared.Written.the-variants.{Bytes}
 use Rattle.order.specs.Order.{priority-order, ordered-set}
 use Rattle.order.specs.declared.Blocker.{Blocker}
 use Rattle.order.specs.declared.Blocker.the-variants.{At, Nobody}
@@ -251,6 +252,16 @@ printed-signed sheet before no-room = (refl, refl)
 printed-signed sheet before (is-printed fits) =
     let text : take (length (report sheet)) (laid (report sheet) before) ≡ report sheet = take-laid (report sheet) before in (
       rw text (report-promised (policy-of sheet) (tasks-of sheet) (report sheet) (report-entry sheet)),
+      fits,
+      laid-length (report sheet) before fits,
       drop-at (report sheet) _ (length (report sheet)) refl,
       report-fits sheet,
     )
+
+-- where bytes were written they are the report
+pub printed-text : (sheet before : List ℕ) (n : ℕ) (w : Written) {after : List ℕ} → w ≡ Bytes n → Printed sheet before w after
+    → (n ≡ length (report sheet)) × (take n after ≡ report sheet)
+printed-text sheet before n w e no-room = let z : _≡_ {A = ℕ} 0 1 = cc in let z : ⊥ = omega arith in absurd z
+printed-text sheet before n w e (is-printed fits) =
+    let count : length (report sheet) ≡ n = cc in
+    (sym count, rw (← count) (take-laid (report sheet) before))

@@ -54,9 +54,10 @@ use Rattle.signed.specs.Calls.{ReportText, WriteReport, AnalyseSet, Anal
 use Rattle.signed.specs.Claims.{said, count-said, holds, missed, refused, in-numbers, in-bytes, WorstTime, Signed, refusal-to, Damaged}
 use Rattle.signed.specs.Numbers.{blocker-by, said-by, IsNumber, list-read-by, written-by, decision-by}
 use Rattle.signed.specs.Reports.{words-in, said-in, text-in, ReportSigned, ReportLeft}
-use Rattle.signed.proofs.Report.{text-back, not-refusing, refusing, report-promised, printed-signed}
+use Rattle.signed.proofs.Report.{text-back, not-refusing, refusing, report-promised, printed-signed, printed-text}
 use Rattle.signed.proofs.Numbers.{miss-said, refusal-said, said-back, written-back, read-back, decision-back}
 use Rattle.signed.proofs.Entries as entries
+use Rattle.signed.proofs.Named.{sheet-named, list-named, read-named, write-named, report-named}
 use Rattle.signed.proofs.Promised.{promised, few-of, in-bits, counted, number-given, number-refused, outcome-number}
 use Rattle.signed.proofs.RoundTrip as trip
 use Rattle.signed.proofs.Damage as damage
@@ -109,14 +110,14 @@ pub analyse-sheet-c-says : (sheet before after : List ℕ) (number : ℕ)
     → AnalyseSheetC sheet before number after
     → AnalyseSheet sheet before (decision-by number) after
 analyse-sheet-c-says sheet before after number c =
-    record { answers = ap decision-by (c .answers) ∙ decision-back _ _ (in-bits (entries.sheet-entry sheet before)); leaves = c .leaves }
+    record { answers = ap decision-by (c .answers) ∙ decision-back _ _ (in-bits (entries.sheet-entry sheet before) (sheet-named sheet before)); leaves = c .leaves }
 
 pub analyse-list-c-says : (policy : ℕ) (list : List Record) (before after : List ℕ) (number : ℕ)
     → AnalyseListC policy list before number after
     → AnalyseList policy list before (decision-by number) after
 analyse-list-c-says policy list before after number c =
     record {
-      answers = ap decision-by (c .answers) ∙ decision-back _ _ (in-bits (entries.list-entry policy list before));
+      answers = ap decision-by (c .answers) ∙ decision-back _ _ (in-bits (entries.list-entry policy list before) (list-named policy list before));
       leaves = c .leaves;
     }
 
@@ -124,19 +125,19 @@ pub read-list-c-says : (sheet : List ℕ) (before after : List Record) (number :
     → ReadListC sheet before number after
     → ReadList sheet before (list-read-by number) after
 read-list-c-says sheet before after number c =
-    record { answers = ap list-read-by (c .answers) ∙ read-back (list-read sheet before) (entries.known-read sheet before _ _ (entries.read-entry sheet before)); leaves = c .leaves }
+    record { answers = ap list-read-by (c .answers) ∙ read-back (list-read sheet before) (entries.known-read sheet before _ _ (entries.read-entry sheet before)) (read-named sheet before); leaves = c .leaves }
 
 pub write-list-c-says : (policy : ℕ) (list : List Record) (before after : List ℕ) (number : ℕ)
     → WriteListC policy list before number after
     → WriteList policy list before (written-by number) after
 write-list-c-says policy list before after number c =
-    record { answers = ap written-by (c .answers) ∙ written-back (list-written policy list before); leaves = c .leaves }
+    record { answers = ap written-by (c .answers) ∙ written-back (list-written policy list before) (write-named policy list before); leaves = c .leaves }
 
 pub report-c-says : (sheet before after : List ℕ) (number : ℕ)
     → ReportC sheet before number after
     → WriteReport sheet before (written-by number) after
 report-c-says sheet before after number c =
-    record { answers = ap written-by (c .answers) ∙ written-back (report-written sheet before); leaves = c .leaves }
+    record { answers = ap written-by (c .answers) ∙ written-back (report-written sheet before) (report-named sheet before); leaves = c .leaves }
 
 -- ---- Demand 1: every input is admitted or gets the one refusal that the order names; 12 comes last
 
@@ -229,7 +230,8 @@ check-sheet-c-refused sheet before after number l h c =
     let e = c .answers ∙ same in
     c .leaves ∙ number-refused a (rw e at l) (rw e at h)
 
--- ---- Demand 1: an admitted sheet changed within sixteen neighbouring bits gets refusal 2 from every entry that takes a sheet, memory unchanged
+-- ---- Demand 1: an admitted sheet changed within sixteen neighbouring bits gets refusal 2 from every entry that answers the refusals of a sheet,
+-- memory unchanged, and its report says so
 
 -- one changed bit is such a change
 pub one-bit-damages : (sheet : List ℕ) (i : ℕ) → IsBytes sheet → i < 8 * length sheet → Damaged sheet (with-bit-inverted i sheet)
@@ -282,6 +284,20 @@ pub write-list-writes : (policy : ℕ) (list : List Record) (before after : List
     → take n after ≡ sheet-of policy (map task-in list)
 write-list-writes policy list before after n w =
     trip.written-sheet policy list before after n (Bytes n) refl (subst₂ (entries.Wrote policy list before) (sym (w .answers)) (sym (w .leaves)) (entries.write-entry policy list before)) .1
+
+-- What `write_report` leaves where it answers with a number of bytes: the whole report, of a refused sheet too.
+pub write-report-writes : (sheet before after : List ℕ) (n : ℕ)
+    → WriteReport sheet before (Bytes n) after
+    → (n ≡ length (report sheet)) × (take n after ≡ report sheet)
+write-report-writes sheet before after n w =
+    printed-text sheet before n (Bytes n) refl (subst₂ (entries.Printed sheet before) (sym (w .answers)) (sym (w .leaves)) (entries.print-entry sheet before))
+
+-- so of a sheet that was damaged (demand 1) a line that refuses it
+pub write-report-damaged : (sheet changed : List ℕ) → reading sheet .answer ≡ Admitted → Damaged sheet changed
+    → (before after : List ℕ) (n : ℕ) → WriteReport changed before (Bytes n) after → take n after ≡ line (refused-word ∷ decimal 2 ∷ [])
+unfolding first-line
+write-report-damaged sheet changed admitted damaged before after n w =
+    write-report-writes changed before after n w .1 ∙ entries.report-turned changed CheckWord (damage.damaged-is-2 sheet changed admitted damaged)
 
 -- `write_list`, then `read_list` of the bytes written into a list that is long enough: the same policy and the same tasks over the slots in use.
 pub write-then-read-list : (policy : ℕ) (list before after : List Record) (room written : List ℕ) (n : ℕ) (answer : ListRead)

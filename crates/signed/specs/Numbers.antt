@@ -43,9 +43,9 @@ refusal-by number i =
     (Length ∷ CheckWord ∷ Version ∷ Policy ∷ BitSet ∷ TaskCount ∷ FrameCount i ∷ Records ∷ IllFormed i ∷ Lock i ∷ NotMonotonic i ∷ Room ∷ [])
     (number - 1) Room
 
--- every entry but `burrbeech_check_sheet`: the refusal's number or 0 in the low eight bits, and above them the detail; of a refusal the task
+-- every entry but `burrbeech_check_sheet`: the refusal's number or 0 in the low eight bits, and above them the detail; of a refusal the task in the next eight
 unfoldable pub refused-by : ℕ → Refusal
-refused-by c = refusal-by (c % 256) (c / 256)
+refused-by c = refusal-by (c % 256) (c / 256 % 256)
 
 -- `burrbeech_read_list`: the task count in eight bits of the detail, the policy in the next eight
 unfoldable pub list-read-by : ℕ → ListRead

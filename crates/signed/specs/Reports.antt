@@ -113,8 +113,13 @@ ReportSigned policy tasks text (missed p b) =
     × IsAdmitted tasks
 ReportSigned policy tasks text (refused number) = (1 ≤ number) × (number ≤ 12) × (text ≡ line (refused-word ∷ decimal number ∷ []))
 
--- And for its text in lent bytes: it stands there as long as it is said to be, the bytes behind it as they were; or there is no room, and nothing has changed.
+-- And for its text in lent bytes: it stands there, as long as it is said to be and within the room, and the bytes behind it are as they were; or there
+-- is no room, and nothing has changed.
 unfoldable pub ReportLeft : ℕ → List Task → (before after : List ℕ) → Written → Type 0
 ReportLeft policy tasks before after (Bytes n) =
-    ReportSigned policy tasks (take n after) (said-in (words-in (take n after))) × (drop n after ≡ drop n before) × (n ≤ 2048)
+    ReportSigned policy tasks (take n after) (said-in (words-in (take n after)))
+    × (n ≤ length before)
+    × (length after ≡ length before)
+    × (drop n after ≡ drop n before)
+    × (n ≤ 2048)
 ReportLeft policy tasks before after (TurnedAway why) = (why ≡ Room) × (after ≡ before)

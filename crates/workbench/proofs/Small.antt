@@ -58,7 +58,7 @@ use Rattle.lists.proofs.Faces.{written-gathered, decision-gathered}
 -- ---- the tasks that refusals name
 
 -- each check of a row names a task below k
-abbrev Names : ℕ → List (Check Refusal) → Type 0
+abbrev pub Names : ℕ → List (Check Refusal) → Type 0
 Names k = Each (λ r. task-of-refusal r < k)
 
 frame-names : (k i : ℕ) (rs : List Record) → i + length rs ≤ k → Names k (frame-count-checks i rs)
@@ -101,7 +101,7 @@ module _ (policy : ℕ) (list : List Record) (room : List ℕ) where
   unfolding records-of
   records-few = rw (length-take) (omega (arith, gathered-length policy list))
 
-  row-names : Names 32 (list-checks policy (set .«task_count») (records-of set))
+  pub row-names : Names 32 (list-checks policy (set .«task_count») (records-of set))
   unfolding list-checks policy-check task-count-check
   row-names =
       let rs : List Record = records-of set in
@@ -182,7 +182,7 @@ module _ (s : List ℕ) where
   unfolding header-in unpacked
   count-small = value-taken task-count-width (drop policy-width (drop version-width bits))
 
-  sheet-names : Names 32 (sheet-checks s)
+  pub sheet-names : Names 32 (sheet-checks s)
   unfolding sheet-checks policy-check task-count-check
   sheet-names =
       let laid : List (Check Refusal) = layout-checks 0 n (behind-header bits) in
