@@ -57,9 +57,9 @@ fn deliver(sheet: &[u8], table: &Name, to: Option<&Name>, output: &mut Output) -
     whole_file::write(path, sheet).map_err(|error| Trouble::of_file(&name, &error))
 }
 
+/// The table may be standard input, and the names may be links.
 fn is_same_file(table: &Name, path: &Path) -> bool {
-    let Name::File(table) = table else { return false };
-    match (std::fs::metadata(table), std::fs::metadata(path)) {
+    match (input::metadata(table), std::fs::metadata(path)) {
         (Ok(one), Ok(other)) => one.is_file() && (one.dev(), one.ino()) == (other.dev(), other.ino()),
         _ => false,
     }

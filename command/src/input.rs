@@ -3,7 +3,7 @@ use crate::names::Name;
 use crate::set::GREATEST_SHEET;
 use crate::status::Trouble;
 use crate::streams;
-use std::fs::File;
+use std::fs::{self, File, Metadata};
 use std::io::{self, Read};
 use std::os::fd::AsFd;
 use std::os::unix::fs::{FileTypeExt, MetadataExt};
@@ -52,12 +52,24 @@ fn read(file: File, most: usize, name: &Name) -> Result<Vec<u8>, Trouble> {
     Ok(bytes)
 }
 
+/// What the system knows of a file, which is not opened for it: a pipe can be opened once.
+pub fn metadata(name: &Name) -> io::Result<Metadata> {
+    match name {
+        Name::File(path) => fs::metadata(path),
+        _ => standard_input()?.metadata(),
+    }
+}
+
 fn open(name: &Name) -> Result<File, Trouble> {
     let opened = match name {
         Name::File(path) => File::open(path),
         _ if streams::input_was_closed() => return Err(Trouble::File(name.clone(), "it is closed".to_string())),
-        // as a file of its own: the library's standard input reads ahead, and takes a stream that cannot be read for an empty one
-        _ => io::stdin().as_fd().try_clone_to_owned().map(File::from),
+        _ => standard_input(),
     };
     opened.map_err(|error| Trouble::of_file(name, &error))
+}
+
+/// As a file of its own: the library's standard input reads ahead, and takes a stream that cannot be read for an empty one.
+fn standard_input() -> io::Result<File> {
+    io::stdin().as_fd().try_clone_to_owned().map(File::from)
 }

@@ -32,6 +32,7 @@ fn a_failure_leaves_everything_as_it_was() {
     folder.file("old", b"old");
     std::fs::create_dir(folder.0.join("d")).unwrap();
     symlink("nowhere", folder.0.join("l")).unwrap();
+    symlink("t", folder.0.join("link-to-t")).unwrap();
     let before = folder.names();
     assert!(shell(&folder.0, "\"$0\" compose bad -o old").failed(2).starts_with("bad:3: refused 9 (task 0): "));
     for line in [
@@ -41,6 +42,12 @@ fn a_failure_leaves_everything_as_it_was() {
         "compose t -o no/f",
         "compose t -o l",
         "compose t -o t",
+        "compose t -o link-to-t",
+        "compose -o t < t",
+        "compose - -o ./t < t",
+        "compose -o link-to-t < t",
+        "compose -o t < link-to-t",
+        "compose /dev/stdin -o t < t",
         "compose t -o ''",
     ] {
         let ran = shell(&folder.0, &format!("\"$0\" {line}"));
