@@ -2,10 +2,11 @@
 use crate::json;
 use crate::running::{run, run_with, shell, shipped_one, Folder, COMMAND, ROOT};
 use std::ffi::OsStr;
-use std::io::Write;
+use std::io::{PipeWriter, Write};
 use std::os::unix::ffi::OsStrExt;
 use std::path::Path;
 use std::process::{Command, Stdio};
+use std::time::Duration;
 
 const READERS: [&str; 5] = ["check", "report", "explain", "show", "compose"];
 
@@ -121,16 +122,22 @@ fn outputs_that_cannot_be_written() {
     }
 }
 
+/// A pipe that nobody reads. A program that another test starts may have the reading end for a moment, so it is waited for.
+fn broken_pipe() -> PipeWriter {
+    let (reader, mut writer) = std::io::pipe().expect("a pipe");
+    drop(reader);
+    while writer.write(b"x").is_ok() {
+        std::thread::sleep(Duration::from_millis(1));
+    }
+    writer
+}
+
 /// Nobody reads the output any more when it is written: no panic, no message, status 3.
 #[test]
 fn a_broken_pipe() {
     for verb in ["check", "report", "explain", "show"] {
         let mut command = Command::new(COMMAND);
-        command.arg(verb).stdin(Stdio::piped()).stdout(Stdio::piped()).stderr(Stdio::piped());
-        let mut child = command.spawn().unwrap();
-        drop(child.stdout.take());
-        child.stdin.take().unwrap().write_all(&std::fs::read(shipped_one("f")).unwrap()).unwrap();
-        let output = child.wait_with_output().unwrap();
+        let output = command.args([verb, &shipped_one("f")]).stdout(broken_pipe()).stderr(Stdio::piped()).output().unwrap();
         assert_eq!((output.status.code(), output.stderr.as_slice()), (Some(3), b"".as_slice()), "{verb}");
     }
 }
