@@ -1,9 +1,12 @@
 //! What the library says of an admitted sheet: the set, the verdict, and each task's blocking and times in priority order. Order and
 //! blocking are taken from the report; what two entries say must agree.
 use crate::demand;
-use crate::library::{self, Analysis, Answer, Verdict};
+use crate::library::{self, Analysis, Answer, Refusal, Verdict};
 use crate::set::Set;
 use crate::status::Trouble;
+
+/// Who does not agree, said in two cases.
+const REPORT_AND_ANALYSIS: &str = "the report and the analysis";
 
 /// What is found of one task.
 #[derive(Clone, Debug)]
@@ -26,8 +29,8 @@ pub struct Findings {
 
 /// The findings of a sheet, or its refusal.
 pub fn of(sheet: &[u8]) -> Answer<Findings> {
-    let report = library::report(sheet)?;
-    let (set, analysis) = match (library::read(sheet)?, library::analyse(sheet)?) {
+    let (report, answer) = report_and_analysis(sheet)?;
+    let (set, analysis) = match (library::read(sheet)?, answer) {
         (Ok(set), Ok(analysis)) => (set, analysis),
         (Err(one), Err(other)) if one == other => return Ok(Err(one)),
         _ => return Err(disagreement("reading and analysing")),
@@ -37,11 +40,25 @@ pub fn of(sheet: &[u8]) -> Answer<Findings> {
         return Err(disagreement("reading and writing"));
     }
     let verdict = analysis.verdict;
-    let ordered = parsed(&report, &set, &analysis).ok_or_else(|| disagreement("the report and the analysis"))?;
+    let ordered = parsed(&report, &set, &analysis).ok_or_else(|| disagreement(REPORT_AND_ANALYSIS))?;
     let mut findings = Findings { set, verdict, ordered };
     name_blockers(&mut findings)?;
     demand::agrees(&findings)?;
     Ok(Ok(findings))
+}
+
+/// The report on a sheet and its analysis, of one verdict or refusal.
+pub fn report_and_analysis(sheet: &[u8]) -> Result<(Vec<u8>, Result<Analysis, Refusal>), Trouble> {
+    let (report, answer) = (library::report(sheet)?, library::analyse(sheet)?);
+    says(&report, &answer).then_some((report, answer)).ok_or_else(|| disagreement(REPORT_AND_ANALYSIS))
+}
+
+/// Whether the report starts with what the analysis answers; of a refused sheet it says nothing else.
+fn says(report: &[u8], answer: &Result<Analysis, Refusal>) -> bool {
+    match answer {
+        Ok(analysis) => report.starts_with(first_line(analysis.verdict, analysis.task_count).as_bytes()),
+        Err(refusal) => report == format!("refused {}\n", refusal.number).as_bytes(),
+    }
 }
 
 fn disagreement(who: &str) -> Trouble {
@@ -49,21 +66,21 @@ fn disagreement(who: &str) -> Trouble {
 }
 
 /// The first line of the report for this verdict.
-pub fn first_line(verdict: Verdict, task_count: usize) -> String {
+fn first_line(verdict: Verdict, task_count: usize) -> String {
     match verdict {
-        Verdict::Holds => format!("holds {task_count}"),
-        Verdict::Missed { task, blocker: Some(blocker) } => format!("missed {task_count} {task} {blocker}"),
-        Verdict::Missed { task, blocker: None } => format!("missed {task_count} {task} -"),
+        Verdict::Holds => format!("holds {task_count}\n"),
+        Verdict::Missed { task, blocker: Some(blocker) } => format!("missed {task_count} {task} {blocker}\n"),
+        Verdict::Missed { task, blocker: None } => format!("missed {task_count} {task} -\n"),
     }
 }
 
-/// The report's lines, where they agree with the set and the analysis.
+/// The report's lines after the first, where they agree with the set and the analysis.
 fn parsed(report: &[u8], set: &Set, analysis: &Analysis) -> Option<Vec<Finding>> {
-    let mut lines = std::str::from_utf8(report).ok()?.lines();
     let count = set.tasks.len();
-    if count != analysis.task_count || lines.next()? != first_line(analysis.verdict, count) {
+    if count != analysis.task_count {
         return None;
     }
+    let lines = std::str::from_utf8(report).ok()?.lines().skip(1);
     let ordered = lines.map(|line| finding(line, set, analysis)).collect::<Option<Vec<Finding>>>()?;
     let mut numbers: Vec<usize> = ordered.iter().map(|finding| finding.task).collect();
     numbers.sort_unstable();
@@ -125,7 +142,8 @@ mod tests {
     fn findings(report: &str) -> Option<Findings> {
         let (set, analysis, _) = case_f();
         let ordered = parsed(report.as_bytes(), &set, &analysis)?;
-        Some(Findings { set, verdict: analysis.verdict, ordered })
+        let verdict = analysis.verdict;
+        says(report.as_bytes(), &Ok(analysis)).then_some(Findings { set, verdict, ordered })
     }
 
     #[test]
@@ -139,6 +157,7 @@ mod tests {
     fn a_report_that_does_not_agree_is_not() {
         let changes = [
             ("holds 2", "holds 3"),
+            ("holds 2", "holds 20"),
             ("holds 2", "missed 2 0 1"),
             ("0 10 4 2 4\n", ""),
             ("0 10 4 2 4\n", "0 10 4 2 4\n0 10 4 2 4\n"),
@@ -154,6 +173,16 @@ mod tests {
         for (from, to) in changes {
             assert!(findings(&case_f().2.replace(from, to)).is_none(), "{to:?}");
         }
+    }
+
+    #[test]
+    fn the_report_on_a_refused_sheet_is_its_refusal_alone() {
+        let refused = Err(Refusal { number: 1, task: None });
+        assert!(says(b"refused 1\n", &refused));
+        for report in ["", "refused 1", "refused 2\n", "refused 11\n", "refused 1\n0 10 4 2 4\n", case_f().2] {
+            assert!(!says(report.as_bytes(), &refused), "{report:?}");
+        }
+        assert!(!says(b"refused 1\n", &Ok(case_f().1)));
     }
 
     #[test]
