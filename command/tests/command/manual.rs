@@ -36,7 +36,9 @@ fn each_field_of_the_objects_is_documented() {
     let json = manual.split(".SH JSON").nth(1).unwrap().split(".SH ").next().unwrap();
     for verb in ["check", "explain", "show"] {
         let help = run(&["help", verb]);
-        let fields = help.done(0).split('"').skip(1).step_by(2).filter(|word| word.chars().all(|c| c.is_ascii_lowercase() || c == '_'));
+        let quoted = help.done(0).split('"').skip(1).step_by(2);
+        let fields: Vec<&str> = quoted.filter(|word| word.chars().all(|c| c.is_ascii_lowercase() || c == '_')).collect();
+        assert!(!fields.is_empty(), "{verb}: no field is said");
         for field in fields {
             let said = json.split(|c: char| !(c.is_ascii_lowercase() || c == '_')).any(|word| word == field);
             assert!(said, "{verb}: {field}");
