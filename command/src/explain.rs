@@ -31,9 +31,9 @@ pub fn run(json: bool, name: &Name, output: &mut Output) -> Result<Status, Troub
 }
 
 fn refused(name: &Name, refusal: Refusal, fault: &Fault) -> String {
-    let place = refusal.task.map_or(String::new(), |task| format!("task {task}: "));
+    let task = refusal.task.map_or(String::new(), |task| format!("task {task}: "));
     let advice = if fault.advice.is_empty() { String::new() } else { format!("{}\n", fault.advice) };
-    format!("{}\n{place}{}\n{advice}", refusal_line(name, refusal), fault.words)
+    format!("{}\n{task}{}\n{advice}", refusal_line(name, refusal), fault.words)
 }
 
 fn judged(name: &Name, findings: &Findings) -> Result<String, Trouble> {

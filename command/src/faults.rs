@@ -2,14 +2,14 @@
 //! the command then says that it disagrees with the library instead of making up a reason.
 use crate::demand::start_frame;
 use crate::library::Refusal;
-use crate::set::{Task, GREATEST_SHEET, LEAST_SHEET, MOST_FRAMES, MOST_TASKS, MOST_TICKS};
-use crate::sheet_bits::{self, End, SheetBits, VERSION};
+use crate::set::{policy_name, Task, GREATEST_SHEET, LEAST_SHEET, MOST_FRAMES, MOST_TASKS, MOST_TICKS, POLICIES};
+use crate::sheet_bits::{self, End, SheetBits, FIXED_BITS, VERSION};
 use crate::status::Trouble;
 use crate::words::{counted, joined};
 
-/// Where the fault stands.
+/// The part of a sheet that has the fault.
 #[derive(Clone, Copy, Debug, PartialEq, Eq)]
-pub enum Place {
+pub enum Part {
     Length,
     CheckWord,
     Version,
@@ -22,15 +22,15 @@ pub enum Place {
 
 #[derive(Clone, Debug)]
 pub struct Fault {
-    pub place: Place,
+    pub part: Part,
     /// Field, value and limit.
     pub words: String,
     /// What to do about it, where that helps.
     pub advice: &'static str,
 }
 
-fn fault_if(seen: bool, place: Place, words: String, advice: &'static str) -> Option<Fault> {
-    seen.then_some(Fault { place, words, advice })
+fn fault_if(seen: bool, part: Part, words: String, advice: &'static str) -> Option<Fault> {
+    seen.then_some(Fault { part, words, advice })
 }
 
 /// The fault of a refused sheet.
@@ -99,7 +99,7 @@ fn length(sheet: &[u8]) -> Option<Fault> {
         _ => format!("length {} bytes or more", GREATEST_SHEET + 1),
     };
     let advice = if is_text(sheet) { TEXT_ADVICE } else { "Look whether this is the right file, and whole." };
-    fault_if(true, Place::Length, format!("{length}: a sheet has {LEAST_SHEET} to {GREATEST_SHEET}"), advice)
+    fault_if(true, Part::Length, format!("{length}: a sheet has {LEAST_SHEET} to {GREATEST_SHEET}"), advice)
 }
 
 /// 2.
@@ -111,66 +111,68 @@ fn check_word(bits: &SheetBits, sheet: &[u8]) -> Option<Fault> {
         "The bytes were changed, cut or added to after the sheet was sealed: get the sheet again from where it was made."
     };
     let words = format!("the check word is {stated:04X}, the bytes before it give {computed:04X}");
-    fault_if(stated != computed, Place::CheckWord, words, advice)
+    fault_if(stated != computed, Part::CheckWord, words, advice)
 }
 
 /// 3.
 fn version(version: u32) -> Option<Fault> {
     let words = format!("version {version}: only version {VERSION} is known");
-    fault_if(version != VERSION, Place::Version, words, "Look whether this is a task sheet.")
+    fault_if(version != VERSION, Part::Version, words, "Look whether this is a task sheet.")
 }
 
 /// 4.
 fn policy(policy: u32) -> Option<Fault> {
-    let words = format!("policy {policy}: 0 (listed), 1 (rate-monotonic) and 2 (deadline-monotonic) are allowed");
-    fault_if(policy > 2, Place::Policy, words, "")
+    let [zero, one, two] = POLICIES;
+    let words = format!("policy {policy}: 0 ({zero}), 1 ({one}) and 2 ({two}) are allowed");
+    fault_if(policy_name(policy).is_none(), Part::Policy, words, "")
 }
 
 /// 5 in the header.
 fn spare(bits: &SheetBits) -> Option<Fault> {
     let words = format!("spare bits {}, bits 11 to 15 of the header: they must be 0", bits.spare);
-    fault_if(bits.spare.contains('1'), Place::Spare, words, "Write zeros there and seal the sheet anew.")
+    fault_if(bits.spare.contains('1'), Part::Spare, words, "Write zeros there and seal the sheet anew.")
 }
 
 /// 5 after the records.
 fn fill(bits: &SheetBits) -> Option<Fault> {
     let End::Left(fill) = &bits.end else { return None };
     let words = format!("fill bits {fill} after the last record: they must be 0");
-    fault_if(fill.contains('1'), Place::End, words, "Write zeros there and seal the sheet anew.")
+    fault_if(fill.contains('1'), Part::End, words, "Write zeros there and seal the sheet anew.")
 }
 
 /// 6.
 fn task_count(count: usize) -> Option<Fault> {
     let words = format!("task count {count}: 1 to {MOST_TASKS} are allowed");
-    fault_if(count == 0 || count > MOST_TASKS, Place::TaskCount, words, "")
+    fault_if(count == 0 || count > MOST_TASKS, Part::TaskCount, words, "")
 }
 
 /// 7.
 fn frame_count(task: usize, count: usize) -> Option<Fault> {
     let words = format!("frame count {count}: 1 to {MOST_FRAMES} are allowed");
-    fault_if(count == 0 || count > MOST_FRAMES, Place::Task(task), words, "")
+    fault_if(count == 0 || count > MOST_FRAMES, Part::Task(task), words, "")
 }
 
 /// 8.
 fn records(bits: &SheetBits) -> Option<Fault> {
     let next = bits.records.len();
-    let (place, words) = match &bits.end {
+    let (part, words) = match &bits.end {
         End::FixedCut(there) => {
-            let words = format!("task {next}: the record runs past the check word: 64 bits for its fixed part, {there} are there");
-            (Place::End, words)
+            let words =
+                format!("task {next}: the record runs past the check word: {FIXED_BITS} bits for its fixed part, {there} are there");
+            (Part::End, words)
         }
         End::FramesCut(there) => {
             let last = bits.records.last()?;
             let (frames, bits) = (counted(last.frame_count.into(), "frame"), last.frame_bits());
             let words = format!("task {}: the record runs past the check word: {bits} bits for {frames}, {there} are there", next - 1);
-            (Place::Task(next - 1), words)
+            (Part::Task(next - 1), words)
         }
         End::Left(left) if left.len() >= 8 => {
-            (Place::End, format!("{} bits are left after the last record: fewer than 8 are allowed", left.len()))
+            (Part::End, format!("{} bits are left after the last record: fewer than 8 are allowed", left.len()))
         }
         _ => return None,
     };
-    fault_if(true, place, words, "Look at the task count, the frame counts and the sheet's length: they must agree.")
+    fault_if(true, part, words, "Look at the task count, the frame counts and the sheet's length: they must agree.")
 }
 
 /// 9, with every reason.
@@ -190,14 +192,14 @@ fn form(number: usize, task: &Task) -> Option<Fault> {
     }
     let above = frames().filter(|&(_, &time)| time > task.deadline);
     reasons.extend(above.map(|(frame, time)| format!("frame {frame} with work {time} is above the deadline {}", task.deadline)));
-    fault_if(!reasons.is_empty(), Place::Task(number), reasons.join("; "), "")
+    fault_if(!reasons.is_empty(), Part::Task(number), reasons.join("; "), "")
 }
 
 /// 10.
 fn lock(number: usize, task: &Task) -> Option<Fault> {
     let (frame, largest) = task.largest_frame()?;
     let words = format!("lock {} is above the largest frame, frame {frame} with work {largest}", task.lock);
-    fault_if(task.lock > largest, Place::Task(number), words, "A job cannot lock for longer than it works.")
+    fault_if(task.lock > largest, Part::Task(number), words, "A job cannot lock for longer than it works.")
 }
 
 /// 11.
@@ -205,7 +207,7 @@ fn monotony(number: usize, task: &Task) -> Option<Fault> {
     let words = format!("frames {} are not accumulatively monotonic: no frame can be the start frame", joined(&task.frames, " "));
     let rule = "For each length from 1 to the number of frames, that many frames from the start frame on, going round, must add up to at least as \
                 much as the same number of frames from any other frame. Frames that fall from the largest on always do.";
-    fault_if(start_frame(&task.frames).is_none(), Place::Task(number), words, rule)
+    fault_if(start_frame(&task.frames).is_none(), Part::Task(number), words, rule)
 }
 
 #[cfg(test)]

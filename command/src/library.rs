@@ -24,7 +24,7 @@ extern "C" {
 /// The longest report.
 const REPORT_ROOM: usize = 2_048;
 
-/// In an outcome, the blocker's place of a miss without one.
+/// In an outcome, stands for the blocker of a miss without one.
 const NO_BLOCKER: usize = 16;
 
 #[derive(Clone, Copy, Debug, PartialEq, Eq)]

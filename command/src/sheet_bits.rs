@@ -3,7 +3,9 @@ use crate::set::{Task, GREATEST_SHEET, LEAST_SHEET, MOST_FRAMES};
 
 const CHECK_BYTES: usize = 2;
 const TICKS_BITS: usize = 20;
-const FIXED_BITS: usize = 64;
+
+/// The bits of a record before its frames.
+pub const FIXED_BITS: usize = 64;
 
 /// The one version whose records are known.
 pub const VERSION: u32 = 1;
@@ -37,7 +39,7 @@ pub enum End {
     FixedCut(usize),
     /// The frames of the last record are not all there: so many bits are.
     FramesCut(usize),
-    /// The last record's frame count cannot be one, so that nothing after it has a place.
+    /// The last record's frame count cannot be one, so that where it ends is not known.
     FrameCount,
     /// The records of this version are not known.
     Version,
@@ -97,7 +99,7 @@ pub fn read(sheet: &[u8]) -> Option<SheetBits> {
     Some(SheetBits { stated_word, computed_word: check_word(body), version, policy, task_count, spare, records, end })
 }
 
-/// The records as far as each has its place.
+/// The records as far as it is known where each starts.
 fn read_records(bits: &mut Bits, task_count: u32) -> (Vec<RecordBits>, End) {
     let mut records = Vec::new();
     for _ in 0..task_count {

@@ -1,6 +1,6 @@
 //! `show`: a sheet as the table that `compose` reads.
 use crate::answers::unread;
-use crate::faults::{self, Fault, Place};
+use crate::faults::{self, Fault, Part};
 use crate::library::{self, Refusal};
 use crate::names::Name;
 use crate::output::Output;
@@ -42,27 +42,27 @@ fn admitted(set: &Set, sheet: &[u8]) -> Result<String, Trouble> {
 
 /// The fields in the sheet's order with the fault marked. The first line is no comment, so that nobody composes it unawares.
 fn refused(refusal: Refusal, fault: &Fault, sheet: &[u8]) -> String {
-    let mark = |place: Place| if place == fault.place { format!("   # <== {}", fault.words) } else { String::new() };
+    let mark = |part: Part| if part == fault.part { format!("   # <== {}", fault.words) } else { String::new() };
     let mut text = format!("{}: {}\n", words::refused(refusal), words::short(refusal.number));
     text += &format!("# What can be read of the refused sheet, the fault marked with <==. {UNITS}\n");
-    let Some(bits) = sheet_bits::read(sheet) else { return text + &format!("# nothing can be read{}\n", mark(Place::Length)) };
-    if fault.place == Place::CheckWord {
+    let Some(bits) = sheet_bits::read(sheet) else { return text + &format!("# nothing can be read{}\n", mark(Part::Length)) };
+    if fault.part == Part::CheckWord {
         text += "# The check word is wrong: the fields below are shown as they stand, and any of them may be spoiled.\n";
     }
     text += &format!("# length {}\n", counted(sheet.len() as u64, "byte"));
-    text += &format!("# check word {:04X}{}\n", bits.stated_word, mark(Place::CheckWord));
-    text += &format!("# version {}{}\n", bits.version, mark(Place::Version));
-    text += &format!("{}{}\n", table::policy_line(bits.policy), mark(Place::Policy));
-    text += &format!("# task count {}{}\n", bits.task_count, mark(Place::TaskCount));
-    text += &format!("# spare bits {}{}\n", bits.spare, mark(Place::Spare));
-    text + &rows(&bits, mark) + &format!("# {}{}\n", end_words(&bits), mark(Place::End))
+    text += &format!("# check word {:04X}{}\n", bits.stated_word, mark(Part::CheckWord));
+    text += &format!("# version {}{}\n", bits.version, mark(Part::Version));
+    text += &format!("{}{}\n", table::policy_line(bits.policy), mark(Part::Policy));
+    text += &format!("# task count {}{}\n", bits.task_count, mark(Part::TaskCount));
+    text += &format!("# spare bits {}{}\n", bits.spare, mark(Part::Spare));
+    text + &rows(&bits, mark) + &format!("# {}{}\n", end_words(&bits), mark(Part::End))
 }
 
 /// The records that are there, as rows of the table.
-fn rows(bits: &SheetBits, mark: impl Fn(Place) -> String) -> String {
+fn rows(bits: &SheetBits, mark: impl Fn(Part) -> String) -> String {
     let tasks: Vec<Task> = bits.records.iter().map(|record| record.task.clone()).collect();
     let rows = table::rows(&tasks);
-    let row = |(task, row): (usize, &String)| format!("{row}{}\n", mark(Place::Task(task)));
+    let row = |(task, row): (usize, &String)| format!("{row}{}\n", mark(Part::Task(task)));
     let (columns, rows) = rows.split_first().expect("a column line");
     format!("{columns}\n") + &rows.iter().enumerate().map(row).collect::<String>()
 }

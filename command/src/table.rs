@@ -1,6 +1,6 @@
 //! The text table of a set: `show` writes it, `compose` reads it.
 use crate::names::escaped;
-use crate::set::{policy_name, Set, Task, MOST_FRAMES, POLICIES};
+use crate::set::{policy_name, Set, Task, MOST_FRAMES, MOST_TICKS, POLICIES};
 use crate::words::UNITS;
 
 /// The names of the columns, which a table must have in this order.
@@ -106,7 +106,7 @@ fn policy(words: &[&[u8]]) -> Result<u32, String> {
 /// The task's number, period, deadline, lock and frames; any count of frames, which the library judges.
 fn row(expected: usize, words: &[&[u8]]) -> Result<Task, String> {
     let [first, period, deadline, lock, frames @ ..] = words else {
-        return Err("a row has the task's number, period, deadline, lock and 1 to 8 frames".to_string());
+        return Err(format!("a row has the task's number, period, deadline, lock and 1 to {MOST_FRAMES} frames"));
     };
     let task = number("task", first)?;
     if task as usize != expected {
@@ -126,7 +126,7 @@ fn number(field: &str, word: &[u8]) -> Result<u32, String> {
         return Err(format!("{field} {} starts with 0: write the number without it", quoted(word)));
     }
     let digits = std::str::from_utf8(word).ok().and_then(|digits| digits.parse().ok());
-    digits.ok_or_else(|| format!("{field} {} is far too large: no number of a set is above 1048575", quoted(word)))
+    digits.ok_or_else(|| format!("{field} {} is far too large: no number of a set is above {MOST_TICKS}", quoted(word)))
 }
 
 /// The word in quotes, cut if it is long.

@@ -61,9 +61,9 @@ fn refused_sets_are_named_by_line() {
                 6 => line_of(16),
                 _ => line_of(task),
             };
-            let place = if matches!(number, 7 | 9 | 10 | 11) { format!(" (task {task})") } else { String::new() };
+            let named = if matches!(number, 7 | 9 | 10 | 11) { format!(" (task {task})") } else { String::new() };
             let ran = run_with(&["compose"], text.as_bytes());
-            assert!(ran.failed(2).starts_with(&format!("-:{line}: refused {number}{place}: ")), "{}", ran.err);
+            assert!(ran.failed(2).starts_with(&format!("-:{line}: refused {number}{named}: ")), "{}", ran.err);
             met[number as usize] += 1;
         }
     }
@@ -82,12 +82,12 @@ fn bad_lines_name_file_line_and_field() {
         ("policy listed\ntask deadline period lock frames\n".to_string(), 2, "the column names"),
         (format!("{start}1 5 5 0 1\n"), 3, "task 0 must stand here, not task 1"),
         (format!("{start}0 5 5 0 1\n0 5 5 0 1\n"), 4, "task 1 must stand here, not task 0"),
-        (format!("{start}0 5 5\n"), 3, "a row has"),
+        (format!("{start}0 5 5\n"), 3, "a row has the task's number, period, deadline, lock and 1 to 8 frames"),
         (format!("{start}0 -5 5 0 1\n"), 3, "period `-5` is no number"),
         (format!("{start}0 5 5e3 0 1\n"), 3, "deadline `5e3` is no number"),
         (format!("{start}0 5 5 0x1 1\n"), 3, "lock `0x1` is no number"),
         (format!("{start}0 5 5 0 1 1,000\n"), 3, "frame 1 `1,000` is no number"),
-        (format!("{start}0 5 5 0 4294967296\n"), 3, "frame 0 `4294967296` is far too large"),
+        (format!("{start}0 5 5 0 4294967296\n"), 3, "frame 0 `4294967296` is far too large: no number of a set is above 1048575"),
         (format!("{start}0 5 5 0 010\n"), 3, "frame 0 `010` starts with 0"),
         (format!("{start}0 5 5 0 \u{1b}[2J\n"), 3, "frame 0 `\\u{1b}[2J` is no number"),
     ];

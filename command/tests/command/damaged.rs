@@ -53,8 +53,8 @@ fn each_verb_gives_the_refusal() {
 fn one_is_refused(path: &str, refusal: Refusal) {
     let number = refusal.number();
     assert_eq!(run(&["report", path]).done(2), format!("refused {number}\n"));
-    let place = named_task(refusal).map_or(String::new(), |task| format!(" (task {task})"));
-    let start = format!("refused {number}{place}: ");
+    let named = named_task(refusal).map_or(String::new(), |task| format!(" (task {task})"));
+    let start = format!("refused {number}{named}: ");
     let explained = run(&["explain", path]);
     assert!(explained.done(2).starts_with(&format!("{path}: {start}")), "{}", explained.text());
     let shown = run(&["show", path]);

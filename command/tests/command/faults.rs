@@ -75,7 +75,7 @@ fn tasks() {
     assert_eq!(fault(|d| d.tasks[1].lock = 6), "lock 6 is above the largest frame, frame 0 with work 5");
 }
 
-/// The place of the fault is the task that the refusal names.
+/// The fault is told and marked at the task that the refusal names.
 #[test]
 fn the_task_is_said_in_words() {
     let mut draft = draft();
