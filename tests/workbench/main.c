@@ -88,7 +88,7 @@ int main(int argc, char **argv)
         return 3;
     }
     int status = analyse(sheet, len);
-    if (fflush(stdout) != 0) {
+    if (fflush(stdout) != 0 || ferror(stdout)) {
         perror("standard output");
         return 3;
     }
