@@ -26,7 +26,6 @@ pub struct CheckOptions {
 /// The words after a verb, sorted.
 #[derive(Debug, Default)]
 struct Given {
-    help: bool,
     quiet: bool,
     json: bool,
     to: Option<OsString>,
@@ -34,33 +33,43 @@ struct Given {
 }
 
 pub fn parse(words: impl Iterator<Item = OsString>) -> Result<Request, Trouble> {
-    let mut words = words;
-    let Some(first) = words.next() else { return Err(usage("a verb is missing".to_string())) };
-    match first.to_str() {
-        Some("help" | "--help" | "-h") => help(words),
-        Some("--version") => match words.next() {
-            None => Ok(Request::Version),
-            Some(word) => Err(usage(format!("--version takes no {}", quoted_if_odd(&word)))),
-        },
-        _ => match Verb::named(&first) {
-            Some(verb) => request(verb, given(verb, words)?),
-            None => Err(usage(format!("there is no verb {}", quoted_if_odd(&first)))),
-        },
+    let words: Vec<OsString> = words.collect();
+    let Some((first, rest)) = words.split_first() else { return Err(usage("a verb is missing".to_string())) };
+    match (Verb::named(first), first.to_str()) {
+        (Some(verb), _) if matches!(rest, [word] if is_help(word)) => Ok(Request::Help(Some(verb))),
+        (Some(verb), _) => request(verb, given(verb, rest.iter().cloned())?),
+        (None, Some("help")) => help(rest),
+        (None, Some("--help" | "-h")) => alone(first, rest, Request::Help(None)),
+        (None, Some("--version")) => alone(first, rest, Request::Version),
+        (None, _) => Err(usage(format!("there is no verb {}", quoted_if_odd(first)))),
     }
+}
+
+fn is_help(word: &OsStr) -> bool {
+    word == "-h" || word == "--help"
 }
 
 fn usage(words: String) -> Trouble {
     Trouble::Usage(words)
 }
 
-fn help(mut words: impl Iterator<Item = OsString>) -> Result<Request, Trouble> {
-    match (words.next(), words.next()) {
-        (None, _) => Ok(Request::Help(None)),
-        (Some(word), None) => match Verb::named(&word) {
+/// A word that takes no other.
+fn alone(word: &OsStr, rest: &[OsString], request: Request) -> Result<Request, Trouble> {
+    match rest.first() {
+        None => Ok(request),
+        Some(surplus) => Err(usage(format!("{} takes no {}", quoted_if_odd(word), quoted_if_odd(surplus)))),
+    }
+}
+
+fn help(words: &[OsString]) -> Result<Request, Trouble> {
+    match words {
+        [] => Ok(Request::Help(None)),
+        [word] if word == "help" => Ok(Request::Help(None)),
+        [word] => match Verb::named(word) {
             Some(verb) => Ok(Request::Help(Some(verb))),
-            None => Err(usage(format!("there is no help for {}", quoted_if_odd(&word)))),
+            None => Err(usage(format!("there is no help for {}", quoted_if_odd(word)))),
         },
-        (Some(_), Some(_)) => Err(usage("help takes one verb".to_string())),
+        _ => Err(usage("help takes one verb".to_string())),
     }
 }
 
@@ -73,7 +82,7 @@ fn given(verb: Verb, mut words: impl Iterator<Item = OsString>) -> Result<Given,
                 given.names.extend(words);
                 break;
             }
-            Some("-h" | "--help") => given.help = true,
+            _ if is_help(&word) => return Err(surplus_help(verb, &word)),
             Some("-q") if verb == Verb::Check => given.quiet = true,
             Some("--json") if matches!(verb, Verb::Check | Verb::Explain | Verb::Show) => given.json = true,
             Some("-o") if verb == Verb::Compose => take_target(&mut given, words.next())?,
@@ -82,6 +91,12 @@ fn given(verb: Verb, mut words: impl Iterator<Item = OsString>) -> Result<Given,
         }
     }
     Ok(given)
+}
+
+/// Help beside files would stand for their verdict, and the word may be a file's name.
+fn surplus_help(verb: Verb, word: &OsStr) -> Trouble {
+    let (verb, word) = (verb.name(), quoted_if_odd(word));
+    usage(format!("{word} is for help where it is the one word after {verb}; a file of that name is ./{word}"))
 }
 
 fn is_option(word: &OsStr) -> bool {
@@ -97,10 +112,7 @@ fn take_target(given: &mut Given, word: Option<OsString>) -> Result<(), Trouble>
 }
 
 fn request(verb: Verb, given: Given) -> Result<Request, Trouble> {
-    let Given { help, quiet, json, to, names } = given;
-    if help {
-        return Ok(Request::Help(Some(verb)));
-    }
+    let Given { quiet, json, to, names } = given;
     match verb {
         Verb::Check => Ok(Request::Check(CheckOptions { quiet, json, sources: sources(names)? })),
         Verb::Report => Ok(Request::Report(source(verb, names)?)),
@@ -167,7 +179,8 @@ mod tests {
         assert_eq!(parsed("check -- -q --json").unwrap(), check(false, false, vec![file("-q"), file("--json")]));
         assert_eq!(parsed("compose t -o f").unwrap(), Request::Compose { table: file("t"), to: Some(file("f")) });
         assert_eq!(parsed("compose -o -").unwrap(), Request::Compose { table: Name::StandardInput, to: Some(Name::StandardOutput) });
-        assert_eq!(parsed("show --help x y").unwrap(), Request::Help(Some(Verb::Show)));
+        assert_eq!(parsed("check -- -h").unwrap(), check(false, false, vec![file("-h")]));
+        assert_eq!(parsed("show --help").unwrap(), Request::Help(Some(Verb::Show)));
         assert_eq!(parsed("help explain").unwrap(), Request::Help(Some(Verb::Explain)));
         assert_eq!(parsed("-h").unwrap(), Request::Help(None));
     }
@@ -176,7 +189,8 @@ mod tests {
     fn what_cannot_be_meant() {
         let lines =
             "|frobnicate|check --quiet|check -x|check - -|report a b|report --json|report -q a|explain a b|show a b|show -o x|compose -o|\
-                     compose -o a -o b|compose a b|refusals x|refusals --json|help nosuch|help check show|--version x|--json";
+                     compose -o a -o b|compose a b|refusals x|refusals --json|help nosuch|help check show|--version x|--json|\
+                     show --help x|check x -h|check -q -h|check -h -h|compose -o x -h|refusals -h x|-h x|--help check|help -h";
         for line in lines.split('|') {
             assert!(matches!(parsed(line), Err(Trouble::Usage(_))), "{line}");
         }

@@ -1,11 +1,12 @@
 //! What can be asked for, and what cannot.
-use crate::running::{run, ROOT};
+use crate::running::{run, shell, shipped_one, Folder, ROOT};
 
 #[test]
 fn wrong_words_are_usage_errors() {
     let lines = "|frobnicate|check --quiet|check -x a|check -qq|check - -|check a - b -|report a b|report --json a|report -q|explain a b|\
                  explain -q a|show a b|show -o x|compose a b|compose -o|compose -o a -o b|compose --json|refusals x|refusals -q|help nosuch|\
-                 help check show|--help nosuch|--version x|--json|-q|-|--";
+                 help check show|help -h|--help nosuch|--help check|-h x|--version x|--version -h|--json|-q|-|--|\
+                 check x -h|check -h x|check -q --help|check -h -h|compose -o x -h|refusals -h x|refusals --version";
     for line in lines.split('|') {
         let words: Vec<&str> = line.split_whitespace().collect();
         let ran = run(&words);
@@ -25,16 +26,28 @@ fn odd_words_are_shown_with_escapes() {
 fn help_is_given_in_each_way() {
     let help = run(&["--help"]);
     assert!(help.done(0).contains("Exit status"));
-    for word in ["-h", "help"] {
-        assert_eq!(run(&[word]).done(0), help.text());
+    for words in [["-h"].as_slice(), &["help"], &["help", "help"]] {
+        assert_eq!(run(words).done(0), help.text());
     }
     for verb in ["check", "report", "explain", "show", "compose", "refusals"] {
         let text = run(&["help", verb]);
         assert!(text.done(0).starts_with(&format!("usage: burrbeech {verb}")));
-        for words in [[verb, "--help"], [verb, "-h"], ["--help", verb]] {
+        for words in [[verb, "--help"], [verb, "-h"]] {
             assert_eq!(run(&words).done(0), text.text());
         }
     }
+}
+
+/// In a folder with such a name, all its files are no question for help.
+#[test]
+fn a_file_named_as_the_help_hides_no_miss() {
+    let folder = Folder::new("help-names");
+    std::fs::copy(shipped_one("g"), folder.0.join("g.sheet")).unwrap();
+    for name in ["-h", "--help"] {
+        std::fs::copy(shipped_one("g"), folder.0.join(name)).unwrap();
+        assert!(shell(&folder.0, "\"$0\" check *").failed(3).contains(&format!("a file of that name is ./{name}")));
+    }
+    assert_eq!(shell(&folder.0, "\"$0\" check -- *").status, 1);
 }
 
 #[test]
