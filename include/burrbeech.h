@@ -256,11 +256,11 @@ static inline size_t burrbeech_analysed_missed_blocker(uint64_t answer)
     return outcome == 0 ? BURRBEECH_NO_BLOCKER : (outcome - 1) % (BURRBEECH_NO_BLOCKER + 1);
 }
 
-/* The response time of a frame, in the numbers that an analysis left. The task is below the task count, the
- * frame below BURRBEECH_FRAMES_MAX. The time is 0 in a slot without a frame, and where the task does not pass. */
+/* The response time of a frame, in the numbers that an analysis left. The task is below the task count. The time is 0
+ * where there is no such frame, whatever its number, and where the task does not pass. */
 static inline uint32_t burrbeech_analysed_time(const uint32_t *times, size_t task, size_t frame)
 {
-    return times[BURRBEECH_FRAMES_MAX * task + frame];
+    return frame < BURRBEECH_FRAMES_MAX ? times[BURRBEECH_FRAMES_MAX * task + frame] : 0;
 }
 
 /* ---- Taking the answer of burrbeech_check_sheet apart ------------------------------------------------------------ */
@@ -299,10 +299,13 @@ static inline size_t burrbeech_check_missed_blocker(uint32_t answer)
                                           : BURRBEECH_NO_BLOCKER;
 }
 
-/* The response time of a frame, in the bytes that burrbeech_check_sheet left. The task is below the task count, the
- * frame below BURRBEECH_FRAMES_MAX. The time is 0 in a slot without a frame, and where the task does not pass. */
+/* The response time of a frame, in the bytes that burrbeech_check_sheet left. The task is below the task count. The
+ * time is 0 where there is no such frame, whatever its number, and where the task does not pass. */
 static inline uint32_t burrbeech_check_time(const uint8_t *times, size_t task, size_t frame)
 {
+    if (frame >= BURRBEECH_FRAMES_MAX) {
+        return 0;
+    }
     const uint8_t *high = times + 4 * (BURRBEECH_FRAMES_MAX * task + frame);
     return (uint32_t)high[0] << 24 | (uint32_t)high[1] << 16 | (uint32_t)high[2] << 8 | (uint32_t)high[3];
 }

@@ -137,6 +137,24 @@ static bool times(void)
            burrbeech_analysed_time(numbers, 15, 7) == 0x01234567 && burrbeech_analysed_time(numbers, 15, 6) == 0;
 }
 
+/* A walk over the eight frames of a task ends there, though the next task has times too. */
+static bool walks_end(void)
+{
+    uint8_t bytes[BURRBEECH_TIMES_BYTES];
+    uint32_t numbers[BURRBEECH_TIMES_MAX];
+    memset(bytes, 1, sizeof bytes);
+    memset(numbers, 1, sizeof numbers);
+    size_t of_bytes = 0, of_numbers = 0;
+    while (of_bytes < BURRBEECH_TIMES_MAX && burrbeech_check_time(bytes, 0, of_bytes) != 0) {
+        of_bytes++;
+    }
+    while (of_numbers < BURRBEECH_TIMES_MAX && burrbeech_analysed_time(numbers, 0, of_numbers) != 0) {
+        of_numbers++;
+    }
+    return of_bytes == BURRBEECH_FRAMES_MAX && of_numbers == BURRBEECH_FRAMES_MAX &&
+           burrbeech_check_time(bytes, 15, SIZE_MAX) == 0 && burrbeech_analysed_time(numbers, 15, SIZE_MAX) == 0;
+}
+
 int main(void)
 {
     expect("refusals, with the task where they name one", refusals());
@@ -147,5 +165,6 @@ int main(void)
     expect("refusals of burrbeech_check_sheet", refusals_of_a_check());
     expect("words for each refusal", words());
     expect("times by task and frame", times());
+    expect("walks over the frames of a task", walks_end());
     return finished();
 }

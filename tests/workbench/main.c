@@ -55,7 +55,7 @@ static void print_times(const uint32_t *times, size_t task)
     if (burrbeech_analysed_time(times, task, 0) == 0) {
         printf(" missed");
     }
-    for (size_t frame = 0; frame < BURRBEECH_FRAMES_MAX && burrbeech_analysed_time(times, task, frame) != 0; frame++) {
+    for (size_t frame = 0; burrbeech_analysed_time(times, task, frame) != 0; frame++) {
         printf(" %u", (unsigned)burrbeech_analysed_time(times, task, frame));
     }
     printf("\n");
