@@ -131,7 +131,8 @@ Exit status: 0 holds, 1 missed, 2 refused, 3 not read, or usage.
 
 const SHOW: &str =
     "Prints the table that `compose` reads; composed, it gives the same bytes again. Of a refused sheet it prints what can be read,
-with the fault marked by `<==`; the first line is then `refused` and the number, which no table has.
+with the fault marked by `<==`; the first line is then `refused` and the number, which no table has. `compose` takes the text when the
+fault is mended and that line and the mark, with what follows it, are deleted.
 
   --json  prints one object:
   {\"file\":NAME,\"admitted\":true,\"tasks\":COUNT,\"policy\":NUMBER,\"policy_name\":TEXT,

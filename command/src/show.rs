@@ -7,6 +7,7 @@ use crate::output::Output;
 use crate::set::{Set, Task};
 use crate::sheet_bits::{self, End, SheetBits};
 use crate::status::{Status, Trouble};
+use crate::table::MARK;
 use crate::words::{self, counted, UNITS};
 use crate::{input, show_json, table};
 
@@ -40,11 +41,12 @@ fn admitted(set: &Set, sheet: &[u8]) -> Result<String, Trouble> {
     same.then_some(text).ok_or_else(|| Trouble::Disagreement("the table does not compose to this sheet".to_string()))
 }
 
-/// The fields in the sheet's order with the fault marked. The first line is no comment, so that nobody composes it unawares.
+/// The fields in the sheet's order with the fault marked. The first line is no comment and the mark stands at the fault alone, so that
+/// nobody composes it unawares.
 fn refused(refusal: Refusal, fault: &Fault, sheet: &[u8]) -> String {
-    let mark = |part: Part| if part == fault.part { format!("   # <== {}", fault.words) } else { String::new() };
+    let mark = |part: Part| if part == fault.part { format!("   # {MARK} {}", fault.words) } else { String::new() };
     let mut text = format!("{}: {}\n", words::refused(refusal), words::short(refusal.number));
-    text += &format!("# What can be read of the refused sheet, the fault marked with <==. {UNITS}\n");
+    text += &format!("# What can be read of the refused sheet; an arrow marks the fault. {UNITS}\n");
     let Some(bits) = sheet_bits::read(sheet) else { return text + &format!("# nothing can be read{}\n", mark(Part::Length)) };
     if fault.part == Part::CheckWord {
         text += "# The check word is wrong: the fields below are shown as they stand, and any of them may be spoiled.\n";

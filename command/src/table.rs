@@ -6,6 +6,9 @@ use crate::words::UNITS;
 /// The names of the columns, which a table must have in this order.
 const COLUMNS: [&str; 5] = ["task", "period", "deadline", "lock", "frames"];
 
+/// What `show` puts before the words for a fault, on the line that has it.
+pub const MARK: &str = "<==";
+
 /// A table that was read; whether its set is admitted is not asked.
 #[derive(Clone, Debug)]
 pub struct Table {
@@ -67,8 +70,18 @@ fn words(line: &[u8]) -> Vec<&[u8]> {
     line.split(u8::is_ascii_whitespace).filter(|word| !word.is_empty()).collect()
 }
 
-/// The table in a text: a policy line, the column names, then the tasks.
+/// The table in a text, unless a fault is still marked in it: a mark stands in a comment.
 pub fn parse(text: &[u8]) -> Result<Table, BadLine> {
+    let table = lines_of(text)?;
+    let is_marked = |line: &[u8]| line.windows(MARK.len()).any(|bytes| bytes == MARK.as_bytes());
+    match text.split(|&byte| byte == b'\n').position(is_marked) {
+        None => Ok(table),
+        Some(i) => Err(BadLine { line: i + 1, words: format!("mend this line, then delete the mark `{MARK}` and what follows it") }),
+    }
+}
+
+/// A policy line, the column names, then the tasks.
+fn lines_of(text: &[u8]) -> Result<Table, BadLine> {
     let text = text.strip_prefix("\u{feff}".as_bytes()).unwrap_or(text);
     let lines = text.split(|&byte| byte == b'\n').enumerate().map(|(i, line)| (i + 1, words(line)));
     let mut lines = lines.filter(|(_, words)| !words.is_empty());
@@ -197,5 +210,8 @@ task  period  deadline  lock  frames
     #[test]
     fn a_refused_show_is_no_table() {
         assert!(bad("refused 9 (task 1): words\npolicy listed\n").1.contains("refused sheet"));
+        for (marked, line) in [(F.replace("3  5", "3  5   # <== words"), 5), (format!("{F}# after 2 records: no bit#<==\r\n"), 6)] {
+            assert_eq!(bad(&marked), (line, "mend this line, then delete the mark `<==` and what follows it".to_string()));
+        }
     }
 }

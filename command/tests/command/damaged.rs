@@ -59,12 +59,24 @@ fn one_is_refused(path: &str, refusal: Refusal) {
     assert!(explained.done(2).starts_with(&format!("{path}: {start}")), "{}", explained.text());
     let shown = run(&["show", path]);
     assert!(shown.done(2).starts_with(&start), "{}", shown.text());
-    assert_eq!(shown.text().matches("<==").count(), 2, "{}", shown.text());
+    assert_eq!(shown.text().matches("<==").count(), 1, "{}", shown.text());
+    without_its_first_line(shown.text());
     for verb in ["explain", "show"] {
         let object = json::object(run(&[verb, "--json", path]).done(2).trim_end());
         assert_eq!(object.get("refusal").number(), u64::from(number));
         assert_ne!(object.get("fault").text(), "");
     }
+}
+
+/// Of a refused sheet no text composes while the mark stands in it.
+fn without_its_first_line(shown: &str) {
+    let (_, rest) = shown.split_once('\n').expect("lines");
+    let marked = 1 + rest.lines().position(|line| line.contains("<==")).expect("a mark");
+    // of a wrong length nothing is shown, and there is no table at all
+    let words =
+        if rest.contains("\npolicy ") { format!("-:{marked}: mend this line, ") } else { "-:3: the table has no line ".to_string() };
+    let ran = run_with(&["compose"], rest.as_bytes());
+    assert!(ran.failed(3).starts_with(&words), "{rest}{}", ran.err);
 }
 
 /// Several faults contend, or the bytes are anything: the first refusal in the scope's order, and no disagreement.

@@ -145,7 +145,7 @@ fn the_table_word_for_word() {
 }
 
 const REFUSED: &str = "refused 11 (task 0): not accumulatively monotonic
-# What can be read of the refused sheet, the fault marked with <==. Times are ticks; tasks and frames count from 0.
+# What can be read of the refused sheet; an arrow marks the fault. Times are ticks; tasks and frames count from 0.
 # length 20 bytes
 # check word B05E
 # version 1
@@ -157,14 +157,17 @@ task  period  deadline  lock  frames
 # after 1 record: fill bits 0000
 ";
 
-/// It is no table until its first line is deleted, and then the writer judges it.
+/// It is no table until its first line and the mark are deleted, and then the writer judges it.
 #[test]
 fn a_refused_sheet_is_shown_and_not_composed() {
     assert_eq!(run(&["show", &shipped_one("i")]).done(2), REFUSED);
     assert!(run_with(&["compose"], REFUSED.as_bytes()).failed(3).starts_with("-:1: "));
     let (_, rest) = REFUSED.split_once('\n').unwrap();
-    assert!(run_with(&["compose"], rest.as_bytes()).failed(2).starts_with("-:9: refused 11 (task 0): frames 1 2 3 "));
-    assert_eq!(run_with(&["compose"], rest.replace("1 2 3 ", "3 2 1 ").as_bytes()).status, 0);
+    assert!(run_with(&["compose"], rest.as_bytes()).failed(3).starts_with("-:9: mend this line, "));
+    let (start, end) = (rest.split(" # <== ").next().unwrap(), "\n# after 1 record: fill bits 0000\n");
+    let unmended = format!("{start}{end}");
+    assert!(run_with(&["compose"], unmended.as_bytes()).failed(2).starts_with("-:9: refused 11 (task 0): frames 1 2 3 "));
+    assert_eq!(run_with(&["compose"], unmended.replace("1 2 3 ", "3 2 1 ").as_bytes()).status, 0);
 }
 
 #[test]
