@@ -4,7 +4,7 @@ use crate::input;
 use crate::library::{self, Refusal};
 use crate::names::Name;
 use crate::output::{complain, Output};
-use crate::set::MOST_TASKS;
+use crate::set::{Set, MOST_TASKS};
 use crate::status::{Status, Trouble};
 use crate::table::{self, Table};
 use crate::{whole_file, words};
@@ -21,11 +21,23 @@ pub fn run(name: &Name, to: Option<&Name>, output: &mut Output) -> Result<Status
     }
     let table = table::parse(&text).map_err(|bad| Trouble::Line(name.clone(), bad.line, bad.words))?;
     match library::write(table.policy, &table.tasks)? {
-        Ok(sheet) => deliver(&sheet, name, to, output).map(|()| Status::Done),
+        Ok(sheet) => {
+            read_back(&sheet, table)?;
+            deliver(&sheet, name, to, output).map(|()| Status::Done)
+        }
         Err(refusal) => {
             complain(&refused(name, &table, refusal)?);
             Ok(Status::Refused)
         }
+    }
+}
+
+/// The sheet must be read to the table's own policy and tasks.
+fn read_back(sheet: &[u8], table: Table) -> Result<(), Trouble> {
+    let set = Set { policy: table.policy, tasks: table.tasks };
+    match library::read(sheet)? == Ok(set) {
+        true => Ok(()),
+        false => Err(Trouble::Disagreement("the sheet is not read to the set of the table".to_string())),
     }
 }
 
@@ -62,5 +74,25 @@ fn is_same_file(table: &Name, path: &Path) -> bool {
     match (input::metadata(table), std::fs::metadata(path)) {
         (Ok(one), Ok(other)) => one.is_file() && (one.dev(), one.ino()) == (other.dev(), other.ino()),
         _ => false,
+    }
+}
+
+#[cfg(test)]
+mod tests {
+    use super::*;
+
+    fn table(lock: u32) -> Table {
+        table::parse(format!("policy 1\ntask period deadline lock frames\n0 10 4 {lock} 2\n").as_bytes()).expect("a table")
+    }
+
+    /// A sheet is written only of the very set that it is read to.
+    #[test]
+    fn a_sheet_of_another_table_is_not_written() {
+        let sheet = library::write(1, &table(2).tasks).expect("an answer").expect("a sheet");
+        assert!(read_back(&sheet, table(2)).is_ok());
+        for other in [table(1), Table { policy: 0, ..table(2) }] {
+            assert!(matches!(read_back(&sheet, other), Err(Trouble::Disagreement(_))));
+        }
+        assert!(matches!(read_back(&sheet[1..], table(2)), Err(Trouble::Disagreement(_))));
     }
 }

@@ -33,14 +33,14 @@ pub fn of(sheet: &[u8]) -> Answer<Findings> {
     let (set, analysis) = match (library::read(sheet)?, answer) {
         (Ok(set), Ok(analysis)) => (set, analysis),
         (Err(one), Err(other)) if one == other => return Ok(Err(one)),
-        _ => return Err(disagreement("reading and analysing")),
+        _ => return Err(Trouble::disagreement("reading and analysing")),
     };
     // the fields that are put into words are the sheet's
     if library::write(set.policy, &set.tasks)?.as_deref() != Ok(sheet) {
-        return Err(disagreement("reading and writing"));
+        return Err(Trouble::disagreement("reading and writing"));
     }
     let verdict = analysis.verdict;
-    let ordered = parsed(&report, &set, &analysis).ok_or_else(|| disagreement(REPORT_AND_ANALYSIS))?;
+    let ordered = parsed(&report, &set, &analysis).ok_or_else(|| Trouble::disagreement(REPORT_AND_ANALYSIS))?;
     let mut findings = Findings { set, verdict, ordered };
     name_blockers(&mut findings)?;
     demand::agrees(&findings)?;
@@ -50,7 +50,7 @@ pub fn of(sheet: &[u8]) -> Answer<Findings> {
 /// The report on a sheet and its analysis, of one verdict or refusal.
 pub fn report_and_analysis(sheet: &[u8]) -> Result<(Vec<u8>, Result<Analysis, Refusal>), Trouble> {
     let (report, answer) = (library::report(sheet)?, library::analyse(sheet)?);
-    says(&report, &answer).then_some((report, answer)).ok_or_else(|| disagreement(REPORT_AND_ANALYSIS))
+    says(&report, &answer).then_some((report, answer)).ok_or_else(|| Trouble::disagreement(REPORT_AND_ANALYSIS))
 }
 
 /// Whether the report starts with what the analysis answers; of a refused sheet it says nothing else.
@@ -59,10 +59,6 @@ fn says(report: &[u8], answer: &Result<Analysis, Refusal>) -> bool {
         Ok(analysis) => report.starts_with(first_line(analysis.verdict, analysis.task_count).as_bytes()),
         Err(refusal) => report == format!("refused {}\n", refusal.number).as_bytes(),
     }
-}
-
-fn disagreement(who: &str) -> Trouble {
-    Trouble::Disagreement(format!("{who} do not say the same of this sheet"))
 }
 
 /// The first line of the report for this verdict.

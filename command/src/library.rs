@@ -15,6 +15,7 @@ struct Record {
 }
 
 extern "C" {
+    fn burrbeech_check_sheet(sheet: *const u8, sheet_len: usize, times: *mut u8, times_len: usize) -> u32;
     fn burrbeech_read_list(sheet: *const u8, sheet_len: usize, list: *mut Record, list_len: usize) -> u64;
     fn burrbeech_write_list(policy: u32, list: *const Record, list_len: usize, sheet: *mut u8, sheet_len: usize) -> u64;
     fn burrbeech_analyse_sheet(sheet: *const u8, sheet_len: usize, times: *mut u32, times_len: usize) -> u64;
@@ -26,6 +27,9 @@ const REPORT_ROOM: usize = 2_048;
 
 /// In an outcome, stands for the blocker of a miss without one.
 const NO_BLOCKER: usize = 16;
+
+/// `burrbeech_check_sheet` numbers misses from here on.
+const FIRST_MISS: usize = 100;
 
 #[derive(Clone, Copy, Debug, PartialEq, Eq)]
 pub struct Refusal {
@@ -92,8 +96,33 @@ pub fn write(policy: u32, tasks: &[Task]) -> Answer<Vec<u8>> {
     })
 }
 
-/// The verdict and the response times of a sheet.
+/// The verdict and the response times of a sheet, of which two entries must say the same.
 pub fn analyse(sheet: &[u8]) -> Answer<Analysis> {
+    let answer = analysed(sheet)?;
+    let mut times = [0; 4 * MOST_FRAMES * MOST_TASKS];
+    // SAFETY: as above
+    let number = unsafe { burrbeech_check_sheet(sheet.as_ptr(), sheet.len(), times.as_mut_ptr(), times.len()) };
+    match is_checked(&answer, number, &times) {
+        true => Ok(answer),
+        false => Err(Trouble::disagreement("checking and analysing")),
+    }
+}
+
+/// Whether the number of `burrbeech_check_sheet` stands for this answer, and its bytes for the times.
+fn is_checked(answer: &Result<Analysis, Refusal>, number: u32, times: &[u8]) -> bool {
+    let Analysis { verdict, times: slots, .. } = match answer {
+        Ok(analysis) => analysis,
+        Err(refusal) => return number == refusal.number,
+    };
+    let expected = match verdict {
+        Verdict::Holds => 0,
+        Verdict::Missed { task, blocker } => FIRST_MISS + (NO_BLOCKER + 1) * task + blocker.unwrap_or(NO_BLOCKER),
+    };
+    let bytes: Vec<u8> = slots.iter().flatten().flat_map(|time| time.to_be_bytes()).collect();
+    number as usize == expected && times.starts_with(&bytes)
+}
+
+fn analysed(sheet: &[u8]) -> Answer<Analysis> {
     let mut times = [0; MOST_FRAMES * MOST_TASKS];
     // SAFETY: as above
     let answer = unsafe { burrbeech_analyse_sheet(sheet.as_ptr(), sheet.len(), times.as_mut_ptr(), times.len()) };
@@ -163,6 +192,38 @@ mod tests {
         assert_eq!(verdict_of(1 + 2, 2), None);
         for answer in [12, 13, 99, 255, 1 << 8 | 1, 16 << 8 | 7] {
             assert!(decoded(answer, |_| Some(())).is_err(), "{answer}");
+        }
+    }
+    #[test]
+    fn both_entries_say_the_same() {
+        let analysis = |verdict| Ok(Analysis { task_count: 1, verdict, times: vec![[0x0102_0304, 5, 0, 0, 0, 0, 0, 0]] });
+        let mut bytes = [0; 512];
+        bytes[..8].copy_from_slice(&[1, 2, 3, 4, 0, 0, 0, 5]);
+        assert!(is_checked(&analysis(Verdict::Holds), 0, &bytes));
+        assert!(is_checked(&analysis(Verdict::Missed { task: 3, blocker: Some(2) }), 100 + 17 * 3 + 2, &bytes));
+        assert!(is_checked(&analysis(Verdict::Missed { task: 15, blocker: None }), 100 + 17 * 15 + 16, &bytes));
+        assert!(is_checked(&Err(Refusal { number: 7, task: Some(3) }), 7, &[0; 512]));
+    }
+
+    #[test]
+    fn another_number_or_time_is_seen() {
+        let holds = Ok(Analysis { task_count: 1, verdict: Verdict::Holds, times: vec![[4, 0, 0, 0, 0, 0, 0, 0]] });
+        let missed = Ok(Analysis { task_count: 1, verdict: Verdict::Missed { task: 0, blocker: None }, times: vec![[0; 8]] });
+        let mut bytes = [0; 512];
+        bytes[3] = 4;
+        for number in [1, 11, 100, 116] {
+            assert!(!is_checked(&holds, number, &bytes), "{number}");
+        }
+        for number in [0, 1, 12, 16, 100, 117] {
+            assert!(!is_checked(&missed, number, &[0; 512]), "{number}");
+        }
+        for number in [0, 5, 7, 106] {
+            assert!(!is_checked(&Err(Refusal { number: 6, task: None }), number, &[0; 512]), "{number}");
+        }
+        for slot in 0..32 {
+            let mut other = bytes;
+            other[slot] ^= 1;
+            assert!(!is_checked(&holds, 0, &other), "{slot}");
         }
     }
 }

@@ -29,6 +29,11 @@ impl Trouble {
         Trouble::File(name.clone(), system_words(error))
     }
 
+    /// Two entries that must say the same and do not.
+    pub fn disagreement(who: &str) -> Self {
+        Trouble::Disagreement(format!("{who} do not say the same of this sheet"))
+    }
+
     /// A disagreement about this file.
     pub fn about(self, name: &Name) -> Self {
         match self {
