@@ -71,7 +71,7 @@ pub fn unread_object(name: &Name, trouble: &Trouble) -> String {
 pub fn unread(json: bool, name: &Name, trouble: Trouble, output: &mut Output) -> Result<Status, Trouble> {
     if json {
         output.put(unread_object(name, &trouble).as_bytes())?;
-        output.finish()?;
+        output.flush()?;
     }
     Err(trouble)
 }

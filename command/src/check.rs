@@ -51,7 +51,7 @@ fn unread(name: &Name, trouble: &Trouble, json: bool, output: &mut Output) -> Re
     if json {
         output.put(unread_object(name, trouble).as_bytes())?;
     }
-    output.finish()?;
+    output.flush()?;
     complain(trouble);
     Ok(Status::Trouble)
 }

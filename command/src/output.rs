@@ -24,10 +24,19 @@ impl Output {
         writer.write_all(bytes).map_err(failed)
     }
 
-    /// Writes what is kept back; without it nothing may be taken for written.
-    pub fn finish(&mut self) -> Result<(), Trouble> {
+    /// Writes what is kept back, so that what is said elsewhere comes after it.
+    pub fn flush(&mut self) -> Result<(), Trouble> {
         match &mut self.writer {
             Some(writer) => writer.flush().map_err(failed),
+            None => Ok(()),
+        }
+    }
+
+    /// Ends the output; without it nothing may be taken for written.
+    pub fn finish(&mut self) -> Result<(), Trouble> {
+        self.flush()?;
+        match &self.writer {
+            Some(writer) => store(writer.get_ref()).map_err(failed),
             None => Ok(()),
         }
     }
@@ -43,6 +52,14 @@ fn open() -> Result<File, Trouble> {
         return Err(Trouble::File(Name::StandardOutput, "it is closed".to_string()));
     }
     io::stdout().as_fd().try_clone_to_owned().map(File::from).map_err(failed)
+}
+
+/// A file system may take bytes and tell only later that there is no room for them. Only a regular file is stored.
+fn store(file: &File) -> io::Result<()> {
+    match file.metadata()?.is_file() {
+        true => file.sync_data(),
+        false => Ok(()),
+    }
 }
 
 fn failed(error: io::Error) -> Trouble {

@@ -122,6 +122,22 @@ fn outputs_that_cannot_be_written() {
     }
 }
 
+/// This regular file of the system takes the bytes and fails when it shall store them, as a full disk far away does.
+#[test]
+fn an_output_that_is_not_stored() {
+    for words in WRITERS.into_iter().filter(|words| *words != "compose t") {
+        let ran = in_root(&format!("exec \"$0\" {words} >/proc/self/comm"));
+        assert_eq!(ran.failed(3), "burrbeech: standard output: Invalid argument\n", "{words}");
+    }
+}
+
+#[test]
+fn a_regular_file_as_output() {
+    let folder = Folder::new("regular");
+    assert_eq!(in_root(&format!("\"$0\" report sheets/f.sheet > '{}'", folder.0.join("r").display())).done(0), "");
+    assert_eq!(std::fs::read(folder.0.join("r")).unwrap(), b"holds 2\n0 10 4 2 4\n1 20 20 0 7\n");
+}
+
 /// A pipe that nobody reads. A program that another test starts may have the reading end for a moment, so it is waited for.
 fn broken_pipe() -> PipeWriter {
     let (reader, mut writer) = std::io::pipe().expect("a pipe");
