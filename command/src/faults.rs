@@ -108,7 +108,8 @@ fn check_word(bits: &SheetBits, sheet: &[u8]) -> Option<Fault> {
     let advice = if is_text(sheet) {
         TEXT_ADVICE
     } else {
-        "The bytes were changed, cut or added to after the sheet was sealed: get the sheet again from where it was made."
+        "The bytes were changed after they were sealed, or whoever made them computed the word otherwise (docs/SHEET.md has values to try), \
+         or this is no sheet."
     };
     let words = format!("the check word is {stated:04X}, the bytes before it give {computed:04X}");
     fault_if(stated != computed, Part::CheckWord, words, advice)

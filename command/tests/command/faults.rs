@@ -37,6 +37,10 @@ fn check_words() {
     bytes[end] ^= 0x80;
     let found = format!("the check word is {:04X}, the bytes before it give {right:04X}", right ^ 0x8000);
     assert_eq!(fault_of(&bytes), found);
+    let causes =
+        "The bytes were changed after they were sealed, or whoever made them computed the word otherwise (docs/SHEET.md has values to \
+                  try), or this is no sheet.\n";
+    assert_eq!(run_with(&["explain"], &bytes).done(2), format!("-: refused 2: check word wrong\n{found}\n{causes}"));
 }
 
 #[test]
