@@ -94,7 +94,7 @@ const CHECK: &str = "Prints one line for each FILE and then the totals:
   i.sheet: refused 11 (task 0): not accumulatively monotonic
   3 sheets: 1 holds, 1 missed, 1 refused
 A file that cannot be read has a message on standard error instead and counts as `not read`; the others are still checked.
-A name with a space, a quote or a character that does not print stands in quotes, with escapes.
+A name with a space, a double quote, a backslash or a character that does not print stands in quotes, with escapes.
 
   -q      says nothing of sheets that hold, and no totals
   --json  prints an object on a line for each FILE, and no totals:
@@ -147,10 +147,10 @@ Exit status: 0 admitted, 2 refused, 3 not read, or usage.
 const COMPOSE: &str = "Writes the sheet of a table to standard output, or to FILE with -o: the whole file or none.
 
   # a comment runs to the end of its line
-  policy listed                             (or: rate-monotonic, deadline-monotonic, 0, 1, 2)
-  task  period  deadline  lock  frames      (this line must stand there as it is)
+  policy listed                             # or: rate-monotonic, deadline-monotonic, 0, 1, 2
+  task  period  deadline  lock  frames      # this line must stand there as it is
   0         10         4     0  2
-  1         20        20     3  5           (task number, period, deadline, lock, then 1 to 8 frames)
+  1         20        20     3  5           # task number, period, deadline, lock, then 1 to 8 frames
 
 Numbers are decimal digits. Periods, deadlines and frames are 1 to 1048575 ticks, locks 0 to 1048575; 1 to 16 tasks.
 A line that is wrong is named on standard error as TABLE:LINE, and nothing is written.

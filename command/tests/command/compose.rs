@@ -1,5 +1,5 @@
 //! Tables: round trips, and the lines that errors name.
-use crate::running::{run, run_with, Folder};
+use crate::running::{run, run_with, shipped_one, Folder};
 use second::generate::{admitted_set, damaged_lists, edge_set};
 use second::random::Random;
 use second::sheet;
@@ -99,9 +99,19 @@ fn bad_lines_name_file_line_and_field() {
     }
 }
 
+/// The help's example composes as it is printed: it is case F.
+#[test]
+fn the_example_of_the_help() {
+    let help = run(&["help", "compose"]);
+    let lines: Vec<&str> = help.done(0).lines().filter(|line| line.starts_with("  ")).collect();
+    assert_eq!(lines.len(), 5, "{lines:?}");
+    let composed = run_with(&["compose"], lines.join("\n").as_bytes());
+    assert_eq!((composed.status, composed.out), (0, std::fs::read(shipped_one("f")).unwrap()), "{}", composed.err);
+}
+
 #[test]
 fn sheets_and_endless_files_are_no_tables() {
-    assert!(run(&["compose", &crate::running::shipped_one("f")]).failed(3).contains(":1: "));
+    assert!(run(&["compose", &shipped_one("f")]).failed(3).contains(":1: "));
     assert!(run(&["compose", "/dev/zero"]).failed(3).contains("/dev/zero: more than 1048576 bytes"));
     assert!(run(&["compose", "no-such-table"]).failed(3).contains("no-such-table: No such file"));
 }
