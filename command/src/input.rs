@@ -13,18 +13,15 @@ use std::os::unix::fs::{FileTypeExt, MetadataExt};
 pub struct Pipes(Vec<(u64, u64)>);
 
 impl Pipes {
-    /// Notes a pipe before it is read; it must be the first time.
-    fn note(&mut self, file: &File) -> io::Result<()> {
-        let known = file.metadata()?;
-        let pipe = (known.dev(), known.ino());
-        if !known.file_type().is_fifo() && !known.file_type().is_socket() {
-            return Ok(());
+    /// Whether what is known so is a pipe that was read.
+    fn have(&self, known: &Metadata) -> bool {
+        self.0.contains(&(known.dev(), known.ino()))
+    }
+
+    fn note(&mut self, known: &Metadata) {
+        if known.file_type().is_fifo() || known.file_type().is_socket() {
+            self.0.push((known.dev(), known.ino()));
         }
-        if self.0.contains(&pipe) {
-            return Err(io::Error::other("this pipe was read already, and nothing is left of it"));
-        }
-        self.0.push(pipe);
-        Ok(())
     }
 }
 
@@ -33,10 +30,14 @@ pub fn sheet(name: &Name) -> Result<Vec<u8>, Trouble> {
     next_sheet(name, &mut Pipes::default())
 }
 
-/// The bytes of one sheet of several.
+/// The bytes of one sheet of several. A pipe with a name is looked at before it is opened: the second time that would wait for a writer.
 pub fn next_sheet(name: &Name, pipes: &mut Pipes) -> Result<Vec<u8>, Trouble> {
+    let known = metadata(name).map_err(|error| Trouble::of_file(name, &error))?;
+    if pipes.have(&known) {
+        return Err(Trouble::File(name.clone(), "this pipe was read already, and nothing is left of it".to_string()));
+    }
     let file = open(name)?;
-    pipes.note(&file).map_err(|error| Trouble::of_file(name, &error))?;
+    pipes.note(&known);
     read(file, GREATEST_SHEET + 1, name)
 }
 

@@ -67,6 +67,17 @@ fn a_pipe_is_read_once() {
     assert_eq!((ran.status, ran.err.as_str()), (1, ""));
 }
 
+/// A pipe with a name is not opened a second time, where no writer would come any more.
+#[test]
+fn a_named_pipe_is_read_once() {
+    let folder = Folder::new("named-pipe");
+    std::fs::copy(shipped_one("f"), folder.0.join("f.sheet")).unwrap();
+    let ran = shell(&folder.0, "mkfifo p && ln -s p q && { cat f.sheet > p & } && timeout 20 \"$0\" check p p q");
+    assert_eq!(ran.text(), "p: holds, 2 tasks\n3 sheets: 1 holds, 0 missed, 0 refused, 2 not read\n");
+    let message = |name| format!("burrbeech: {name}: this pipe was read already, and nothing is left of it\n");
+    assert_eq!((ran.status, ran.err), (3, message("p") + &message("q")));
+}
+
 /// A closed input is no matter where it is not read.
 #[test]
 fn a_closed_input_beside_a_file() {
