@@ -1,5 +1,4 @@
 //! Writing a whole file or none.
-use std::ffi::OsString;
 use std::fs::{self, File, OpenOptions, Permissions};
 use std::io::{self, ErrorKind, Write};
 use std::path::{Path, PathBuf};
@@ -30,15 +29,12 @@ fn replace(path: &Path, bytes: &[u8], permissions: Option<Permissions>) -> io::R
     done
 }
 
-/// A new file in the same folder, under a name that nothing has.
+/// A new file in the same folder, under a name that nothing has, and short: the file's own may be as long as names can be.
 fn create_beside(path: &Path) -> io::Result<(PathBuf, File)> {
-    let name = path.file_name().ok_or_else(|| io::Error::new(ErrorKind::InvalidInput, "no name of a file"))?;
+    path.file_name().ok_or_else(|| io::Error::new(ErrorKind::InvalidInput, "no name of a file"))?;
     let mut tries = 0;
     loop {
-        let mut other = OsString::from(".");
-        other.push(name);
-        other.push(format!(".{}-{tries}.part", std::process::id()));
-        let beside = path.with_file_name(other);
+        let beside = path.with_file_name(format!(".burrbeech-{}-{tries}.part", std::process::id()));
         match OpenOptions::new().write(true).create_new(true).open(&beside) {
             Err(error) if error.kind() == ErrorKind::AlreadyExists && tries < 100 => tries += 1,
             opened => return opened.map(|file| (beside, file)),

@@ -25,6 +25,18 @@ fn a_new_file_and_an_old_one() {
 }
 
 #[test]
+fn the_longest_name() {
+    let folder = Folder::new("longest");
+    folder.file("t", TABLE);
+    let name = "n".repeat(255);
+    for _ in 0..2 {
+        assert_eq!(shell(&folder.0, &format!("\"$0\" compose t -o {name}")).done(0), "");
+        assert_eq!(std::fs::read(folder.0.join(&name)).unwrap(), sheet());
+        assert_eq!(folder.names(), [name.as_str(), "t"]);
+    }
+}
+
+#[test]
 fn a_failure_leaves_everything_as_it_was() {
     let folder = Folder::new("failures");
     folder.file("t", TABLE);
