@@ -123,6 +123,7 @@ fn jobs_words(jobs: &Jobs, at: u32) -> String {
     let Jobs { task, period, start_frame, rounds, round, rest, .. } = jobs;
     let (count, rest) = (counted(jobs.count.into(), "job"), joined(rest, " + "));
     let work = match (rounds, rest.is_empty()) {
+        _ if jobs.frames == 1 && jobs.count == 1 => format!("with work {round}"),
         _ if jobs.frames == 1 => format!("each with work {round}"),
         (0, _) => format!("from frame {start_frame} on, going round: {rest}"),
         (_, true) => format!("from frame {start_frame} on, going round: {} of {round}", counted(*rounds, "round")),

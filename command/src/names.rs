@@ -36,7 +36,7 @@ impl Name {
     }
 }
 
-/// The name itself, or in quotes with escapes if it has a space, a quote or anything that does not print.
+/// The name itself, or in quotes with escapes if it has a space, a double quote, a backslash or anything that does not print.
 pub fn quoted_if_odd(name: &OsStr) -> String {
     let escaped = escaped(name.as_bytes());
     let odd = escaped.is_empty() || escaped.as_bytes() != name.as_bytes() || escaped.contains(char::is_whitespace);
@@ -47,7 +47,7 @@ pub fn quoted_if_odd(name: &OsStr) -> String {
     }
 }
 
-/// The text with quotes, backslashes and all that does not print as escapes, and bytes that are no UTF-8 as `\xNN`.
+/// The text with double quotes, backslashes and all that does not print as escapes, and bytes that are no UTF-8 as `\xNN`.
 pub fn escaped(bytes: &[u8]) -> String {
     let part = |chunk: std::str::Utf8Chunk| {
         let valid: String = chunk.valid().chars().map(escaped_char).collect();

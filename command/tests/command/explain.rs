@@ -123,8 +123,10 @@ fn words_agree(text: &str, set: &Set, analysis: &Analysis, total: u64) {
 /// The work that the words of a higher task add up to.
 fn work_in(words: &str) -> u64 {
     let number = |word: &str| word.parse::<u64>().expect("a number");
-    if let Some((jobs, work)) = words.split_once(", each with work ") {
-        return number(jobs.split(' ').nth(3).expect("jobs")) * number(work);
+    if let Some((jobs, work)) = words.split_once("with work ") {
+        let count = number(jobs.split(' ').nth(3).expect("jobs"));
+        assert_eq!(jobs.ends_with(", each "), count > 1, "{words}");
+        return count * number(work);
     }
     let (_, sum) = words.split_once(", going round: ").expect("frames");
     let (rounds, rest) = match sum.split_once(" of ") {
