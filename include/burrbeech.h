@@ -303,11 +303,9 @@ static inline size_t burrbeech_check_missed_blocker(uint32_t answer)
  * time is 0 where there is no such frame, whatever its number, and where the task does not pass. */
 static inline uint32_t burrbeech_check_time(const uint8_t *times, size_t task, size_t frame)
 {
-    if (frame >= BURRBEECH_FRAMES_MAX) {
-        return 0;
-    }
-    const uint8_t *high = times + 4 * (BURRBEECH_FRAMES_MAX * task + frame);
-    return (uint32_t)high[0] << 24 | (uint32_t)high[1] << 16 | (uint32_t)high[2] << 8 | (uint32_t)high[3];
+    const uint8_t *high = times + 4 * (BURRBEECH_FRAMES_MAX * task + (frame < BURRBEECH_FRAMES_MAX ? frame : 0));
+    uint32_t time = (uint32_t)high[0] << 24 | (uint32_t)high[1] << 16 | (uint32_t)high[2] << 8 | (uint32_t)high[3];
+    return frame < BURRBEECH_FRAMES_MAX ? time : 0;
 }
 
 #ifdef __cplusplus

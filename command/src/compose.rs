@@ -8,6 +8,8 @@ use crate::set::{Set, MOST_TASKS};
 use crate::status::{Status, Trouble};
 use crate::table::{self, Table};
 use crate::{whole_file, words};
+use std::fs::{self, Metadata};
+use std::io;
 use std::os::unix::fs::MetadataExt;
 use std::path::Path;
 
@@ -63,15 +65,19 @@ fn deliver(sheet: &[u8], table: &Name, to: Option<&Name>, output: &mut Output) -
         return output.put(sheet);
     };
     let (name, path) = (Name::File(path.clone()), Path::new(path));
-    if is_same_file(table, path) {
+    if is_same_file(input::metadata(table), path) {
         return Err(Trouble::File(name, "this is the table itself: it would be lost".to_string()));
+    }
+    // by another name, such as `/dev/stdout`: what the file holds already is the caller's
+    if is_same_file(output.metadata(), path) {
+        return output.put(sheet);
     }
     whole_file::write(path, sheet).map_err(|error| Trouble::of_file(&name, &error))
 }
 
-/// The table may be standard input, and the names may be links.
-fn is_same_file(table: &Name, path: &Path) -> bool {
-    match (input::metadata(table), std::fs::metadata(path)) {
+/// The one may be a standard stream, and the path may be a link.
+fn is_same_file(one: io::Result<Metadata>, path: &Path) -> bool {
+    match (one, fs::metadata(path)) {
         (Ok(one), Ok(other)) => one.is_file() && (one.dev(), one.ino()) == (other.dev(), other.ino()),
         _ => false,
     }

@@ -152,6 +152,7 @@ const COMPOSE: &str = "Writes the sheet of a table to standard output, or to FIL
   0         10         4     0  2
   1         20        20     3  5           # task number, period, deadline, lock, then 1 to 8 frames
 
+No line may have `<==`, in a comment either: `show` marks a fault with it.
 Numbers are decimal digits. Periods, deadlines and frames are 1 to 1048575 ticks, locks 0 to 1048575; 1 to 16 tasks.
 A line that is wrong is named on standard error as TABLE:LINE, and nothing is written.
 

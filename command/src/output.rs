@@ -2,7 +2,7 @@
 use crate::names::Name;
 use crate::status::{system_words, Trouble, DISAGREEMENT};
 use crate::streams;
-use std::fs::File;
+use std::fs::{File, Metadata};
 use std::io::{self, BufWriter, ErrorKind, IsTerminal, Write};
 use std::os::fd::AsFd;
 
@@ -41,6 +41,10 @@ impl Output {
         }
     }
 
+    pub fn metadata(&self) -> io::Result<Metadata> {
+        standard_output()?.metadata()
+    }
+
     pub fn is_terminal(&self) -> bool {
         !streams::output_was_closed() && io::stdout().is_terminal()
     }
@@ -51,7 +55,11 @@ fn open() -> Result<File, Trouble> {
     if streams::output_was_closed() {
         return Err(Trouble::File(Name::StandardOutput, "it is closed".to_string()));
     }
-    io::stdout().as_fd().try_clone_to_owned().map(File::from).map_err(failed)
+    standard_output().map_err(failed)
+}
+
+fn standard_output() -> io::Result<File> {
+    io::stdout().as_fd().try_clone_to_owned().map(File::from)
 }
 
 /// A file system may take bytes and tell only later that there is no room for them. Only a regular file is stored.

@@ -76,7 +76,10 @@ pub fn parse(text: &[u8]) -> Result<Table, BadLine> {
     let is_marked = |line: &[u8]| line.windows(MARK.len()).any(|bytes| bytes == MARK.as_bytes());
     match text.split(|&byte| byte == b'\n').position(is_marked) {
         None => Ok(table),
-        Some(i) => Err(BadLine { line: i + 1, words: format!("mend this line, then delete the mark `{MARK}` and what follows it") }),
+        Some(i) => Err(BadLine {
+            line: i + 1,
+            words: format!("this line has the mark `{MARK}` of a fault: mend it, then delete the mark and what follows it"),
+        }),
     }
 }
 
@@ -211,7 +214,10 @@ task  period  deadline  lock  frames
     fn a_refused_show_is_no_table() {
         assert!(bad("refused 9 (task 1): words\npolicy listed\n").1.contains("refused sheet"));
         for (marked, line) in [(F.replace("3  5", "3  5   # <== words"), 5), (format!("{F}# after 2 records: no bit#<==\r\n"), 6)] {
-            assert_eq!(bad(&marked), (line, "mend this line, then delete the mark `<==` and what follows it".to_string()));
+            assert_eq!(
+                bad(&marked),
+                (line, "this line has the mark `<==` of a fault: mend it, then delete the mark and what follows it".to_string())
+            );
         }
     }
 }

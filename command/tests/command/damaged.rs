@@ -74,7 +74,7 @@ fn without_its_first_line(shown: &str) {
     let marked = 1 + rest.lines().position(|line| line.contains("<==")).expect("a mark");
     // of a wrong length nothing is shown, and there is no table at all
     let words =
-        if rest.contains("\npolicy ") { format!("-:{marked}: mend this line, ") } else { "-:3: the table has no line ".to_string() };
+        if rest.contains("\npolicy ") { format!("-:{marked}: this line has the mark ") } else { "-:3: the table has no line ".to_string() };
     let ran = run_with(&["compose"], rest.as_bytes());
     assert!(ran.failed(3).starts_with(&words), "{rest}{}", ran.err);
 }

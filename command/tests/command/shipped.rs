@@ -163,7 +163,7 @@ fn a_refused_sheet_is_shown_and_not_composed() {
     assert_eq!(run(&["show", &shipped_one("i")]).done(2), REFUSED);
     assert!(run_with(&["compose"], REFUSED.as_bytes()).failed(3).starts_with("-:1: "));
     let (_, rest) = REFUSED.split_once('\n').unwrap();
-    assert!(run_with(&["compose"], rest.as_bytes()).failed(3).starts_with("-:9: mend this line, "));
+    assert!(run_with(&["compose"], rest.as_bytes()).failed(3).starts_with("-:9: this line has the mark "));
     let (start, end) = (rest.split(" # <== ").next().unwrap(), "\n# after 1 record: fill bits 0000\n");
     let unmended = format!("{start}{end}");
     assert!(run_with(&["compose"], unmended.as_bytes()).failed(2).starts_with("-:9: refused 11 (task 0): frames 1 2 3 "));

@@ -27,6 +27,8 @@ fn inputs_that_cannot_be_read() {
         ("< sheets", "standard input: Is a directory"),
         ("<&-", "standard input: it is closed"),
         ("- <&-", "standard input: it is closed"),
+        ("/dev/stdin <&-", "/dev/stdin: Is a directory"),
+        ("/dev/fd/0 <&-", "/dev/fd/0: Is a directory"),
         ("0>/dev/null", "standard input: Bad file descriptor"),
         ("''", "\"\": No such file"),
     ];

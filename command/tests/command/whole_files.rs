@@ -61,6 +61,7 @@ fn a_failure_leaves_everything_as_it_was() {
         "compose -o t < link-to-t",
         "compose /dev/stdin -o t < t",
         "compose t -o ''",
+        "compose t -o /dev/stdout >&-",
     ] {
         let ran = shell(&folder.0, &format!("\"$0\" {line}"));
         ran.failed(if line.contains("bad") { 2 } else { 3 });
@@ -83,6 +84,11 @@ fn links_are_followed_and_devices_written() {
     assert!(shell(&folder.0, "\"$0\" compose t -o /dev/full").failed(3).contains("/dev/full: No space left"));
     assert_eq!(shell(&folder.0, "\"$0\" compose t -o -").out, sheet());
     assert_eq!(shell(&folder.0, "\"$0\" compose t -o f.sheet >&-").status, 0);
+    // what an output holds already stays
+    folder.file("log", b"kept\n");
+    assert_eq!(shell(&folder.0, "\"$0\" compose t -o /dev/stdout >> log").done(0), "");
+    assert_eq!(std::fs::read(folder.0.join("log")).unwrap(), [b"kept\n".as_slice(), &sheet()].concat());
+    std::fs::remove_file(folder.0.join("log")).unwrap();
     assert_eq!(folder.names(), ["f.sheet", "l", "t"]);
 }
 
