@@ -80,7 +80,7 @@ module _ (t : Task) where
   unfolding frame frame-count of-frames
   frame-of-frames k = refl
 
-  work-of-frames : (k n : ℕ) → work (of-frames (t .frames)) k n ≡ work t k n
+  pub work-of-frames : (k n : ℕ) → work (of-frames (t .frames)) k n ≡ work t k n
   work-of-frames k zero = rw (work-zero (of-frames (t .frames)) k, work-zero t k)
   work-of-frames k (suc n) = rw (work-suc (of-frames (t .frames)) k n, work-suc t k n, work-of-frames k n, frame-of-frames (k + n))
 

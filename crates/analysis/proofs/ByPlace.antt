@@ -9,21 +9,24 @@ use native.Mathlib.Omega.{arith}
 use lib.ListN.{length, getD, take, drop, set, replicate, length-take, drop-of-length-le, length-map, List·getD-map, List·getD-append}
 use lib.Seq.{drop-cons, getD-take}
 use Rattle.theory.specs.First.{found}
-use Rattle.theory.specs.Tasks.{Task, task-at, frame-count, frame, largest, largest-frame, deadline-of, shortest-deadline}
-use Rattle.theory.specs.Analysis.{lower, blocking, higher, demand, response, demand-of, response-of, passes}
-use Rattle.theory.proofs.Laws.{largest-is}
+use Rattle.theory.specs.Tasks.{Task, task-at, frame-count, frame, largest, largest-frame, deadline-of, shortest-deadline, WellFormed}
+use Rattle.theory.specs.Analysis.{Higher, lower, blocking, higher, demand, response, demand-of, response-of, passes}
+use Rattle.theory.proofs.Laws.{largest-is, frame-le-largest}
 use Rattle.sheet.specs.Constants.{most-frames}
 use Rattle.sheet.specs.Tasks.{task-in}
 use Rattle.sheet.proofs.Records.{frames-used}
 use Rattle.sheet.specs.declared.Task.{Task as Record}
-use Rattle.response.specs.Response.{above-in, answer, response-to}
-use Rattle.response.specs.declared.Above.{Above}
-use Rattle.response.specs.declared.Response.the-variants.{At, Never}
+use Rattle.analysis.specs.Inside.Response.{answer, response-to}
+use Rattle.analysis.specs.declared.response.Response.the-variants.{At, Never}
 use Rattle.analysis.specs.Times.{number-at, times-from, slots-by, slots-of}
 use Rattle.analysis.specs.Findings.{finding-at, findings-from, findings-of}
 use Rattle.analysis.specs.Inside.Steps.{as-written, is-there, times-to, finding-with, finding-to}
 use Rattle.analysis.specs.declared.Finding.{Finding}
 use Rattle.sheet.proofs.Filled.{filled, filled-more, all-filled}
+
+frame-in : (t : Task) (k : ℕ) → k < frame-count t → frame t k ≡ getD (t .frames) k 0
+unfolding frame
+frame-in t k h = rw (mod-eq-of-lt h)
 
 -- the time of a frame of the task at a place, by the frame's length
 module _ (set : List Task) (p : ℕ) where
@@ -34,16 +37,12 @@ module _ (set : List Task) (p : ℕ) where
   unfolding response-of demand-of deadline-of shortest-deadline
   response-by k = refl
 
-  frame-in : (k : ℕ) → k < frame-count (task-at set p) → frame (task-at set p) k ≡ getD (task-at set p .frames) k 0
-  unfolding frame
-  frame-in k h = rw (mod-eq-of-lt h)
-
   times-by : (k n : ℕ) → k + n ≡ frame-count (task-at set p) → times-from set p k n ≡ map (λ c. Option·getD (time c) 0) (drop k (task-at set p .frames))
   unfolding times-from frame-count
   times-by k zero e = rw (drop-of-length-le (task-at set p .frames) {i = k} (omega arith))
   times-by k (suc n) e =
       rw (drop-cons (task-at set p .frames) k 0 (omega arith))
-      (ap₂ _∷_ (ap (λ (r : Option ℕ). Option·getD r 0) (response-by k ∙ ap time (frame-in k (omega arith)))) (times-by (suc k) n (omega arith)))
+      (ap₂ _∷_ (ap (λ (r : Option ℕ). Option·getD r 0) (response-by k ∙ ap time (frame-in (task-at set p) k (omega arith)))) (times-by (suc k) n (omega arith)))
 
   passes-by : 1 ≤ frame-count (task-at set p) → passes set p ≡ found (time (largest (task-at set p .frames)))
   unfolding passes
@@ -60,6 +59,21 @@ module _ (set : List Task) (p : ℕ) where
 pub frames-counted : (r : Record) (n : ℕ) → (n ≡ min (r .«frame_count») most-frames) × (length (r .frames) ≡ most-frames) → n ≡ frame-count (task-in r)
 unfolding frame-count task-in
 frames-counted r n used = used .0 ∙ sym (length-take (r .«frame_count») (r .frames) ∙ ap (min (r .«frame_count»)) (used .1))
+
+-- every frame of a well-formed task takes a tick or more, and so does the largest
+pub frame-counts : (r : Record) (n k : ℕ) → (n ≡ min (r .«frame_count») most-frames) × (length (r .frames) ≡ most-frames) → WellFormed (task-in r) → k < n
+    → 1 ≤ getD (r .frames) k 0
+frame-counts r n k used w h =
+    let there : k < frame-count (task-in r) = omega (arith, frames-counted r n used) in
+    rw (
+      ← getD-take n (r .frames) k 0 h,
+      frames-used r n used,
+      ← frame-in (task-in r) k there,
+    )
+    (w .frame-positive k there)
+
+pub largest-counts : (t : Task) → WellFormed t → 1 ≤ largest (t .frames)
+largest-counts t w = omega (arith, w .frame-positive 0 (w .has-frame), frame-le-largest t 0)
 
 -- every frame has the task's one deadline
 pub one-deadline : (t : Task) (k : ℕ) → deadline-of t k ≡ shortest-deadline t
@@ -80,27 +94,27 @@ map-same f g h [] = refl
 map-same f g h (c ∷ l) = ap₂ _∷_ (h c) (map-same f g h l)
 
 -- the times of frames below given tasks
-pub times-in : Above → ℕ → ℕ → List ℕ → List ℕ
+pub times-in : List Higher → ℕ → ℕ → List ℕ → List ℕ
 times-in above blocked deadline frames = map (λ c. as-written (response-to above blocked c deadline)) frames
 
-pub length-times-in : (above : Above) (blocked deadline : ℕ) (frames : List ℕ) → length (times-in above blocked deadline frames) ≡ length frames
+pub length-times-in : (above : List Higher) (blocked deadline : ℕ) (frames : List ℕ) → length (times-in above blocked deadline frames) ≡ length frames
 unfolding times-in
 length-times-in above blocked deadline frames = length-map frames (λ c. as-written (response-to above blocked c deadline))
 
-pub time-in : (above : Above) (blocked deadline : ℕ) (frames : List ℕ) (n k : ℕ) → k < n → n ≤ length frames
+pub time-in : (above : List Higher) (blocked deadline : ℕ) (frames : List ℕ) (n k : ℕ) → k < n → n ≤ length frames
     → getD (times-in above blocked deadline (take n frames)) k (as-written (response-to above blocked 0 deadline)) ≡ as-written (response-to above blocked (getD frames k 0) deadline)
 unfolding times-in
 time-in above blocked deadline frames n k h l =
     List·getD-map (λ c. as-written (response-to above blocked c deadline)) (take n frames) k 0
     ∙ ap (λ (c : ℕ). as-written (response-to above blocked c deadline)) (getD-take n frames k 0 h)
 
-pub times-to-in : (above : Above) (blocked : ℕ) (r : Record) (n : ℕ) → (n ≡ min (r .«frame_count») most-frames) × (length (r .frames) ≡ most-frames)
+pub times-to-in : (above : List Higher) (blocked : ℕ) (r : Record) (n : ℕ) → (n ≡ min (r .«frame_count») most-frames) × (length (r .frames) ≡ most-frames)
     → times-to above blocked r ≡ times-in above blocked (shortest-deadline (task-in r)) (take n (r .frames))
 unfolding times-to times-in
 times-to-in above blocked r n used = rw (frames-used r n used)
 
 -- a turn of the loop over the frames, and its end
-module _ (above : Above) (blocked deadline n : ℕ) (frames : List ℕ) (small : n ≤ most-frames) (room : length frames ≡ most-frames) where
+module _ (above : List Higher) (blocked deadline n : ℕ) (frames : List ℕ) (small : n ≤ most-frames) (room : length frames ≡ most-frames) where
   abbrev pub up-to : ℕ → List ℕ
   up-to = filled most-frames 0 (times-in above blocked deadline (take n frames))
 
@@ -116,14 +130,14 @@ module _ (above : Above) (blocked deadline n : ℕ) (frames : List ℕ) (small :
   pub up-to-all : (k : ℕ) → n ≡ k → up-to k ≡ times-in above blocked deadline (take n frames) ++ replicate (most-frames - length (times-in above blocked deadline (take n frames))) 0
   up-to-all k e = all-filled most-frames 0 (times-in above blocked deadline (take n frames)) k (count ∙ e)
 
-pub slots-to : (above : Above) (blocked : ℕ) (r : Record) (n : ℕ) → (n ≡ min (r .«frame_count») most-frames) × (length (r .frames) ≡ most-frames)
+pub slots-to : (above : List Higher) (blocked : ℕ) (r : Record) (n : ℕ) → (n ≡ min (r .«frame_count») most-frames) × (length (r .frames) ≡ most-frames)
     → let times = times-in above blocked (shortest-deadline (task-in r)) (take n (r .frames)) in
     times ++ replicate (most-frames - length times) 0 ≡ slots-by true (times-to above blocked r)
 unfolding slots-by
 slots-to above blocked r n used = rw (times-to-in above blocked r n used)
 
 -- a finding by the response to the largest frame
-module _ (above : Above) (number blocked : ℕ) (r : Record) where
+module _ (above : List Higher) (number blocked : ℕ) (r : Record) where
   pub finding-there : (t : ℕ) → response-to above blocked (largest (task-in r .frames)) (shortest-deadline (task-in r)) ≡ At t
       → finding-to above number blocked r ≡ finding-with number blocked (task-in r) true (slots-by true (times-to above blocked r))
   unfolding finding-to
@@ -135,9 +149,9 @@ module _ (above : Above) (number blocked : ℕ) (r : Record) where
   finding-never e = rw e
 
 -- the tasks above, the number, the blocking and the task are those of a place
-pub finding-is-at : (order : List ℕ) (set : List Task) (p : ℕ) (above : Above) (number blocked : ℕ) (r : Record)
+pub finding-is-at : (order : List ℕ) (set : List Task) (p : ℕ) (above : List Higher) (number blocked : ℕ) (r : Record)
     → 1 ≤ frame-count (task-at set p)
-    → above-in above ≡ higher set p → number ≡ number-at order p → blocked ≡ blocking (lower set p) → task-in r ≡ task-at set p
+    → above ≡ higher set p → number ≡ number-at order p → blocked ≡ blocking (lower set p) → task-in r ≡ task-at set p
     → finding-to above number blocked r ≡ finding-at order set p
 unfolding finding-to times-to response-to
 finding-is-at order set p above number blocked r h ea en eb et =

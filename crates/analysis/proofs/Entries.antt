@@ -191,8 +191,7 @@ module _ (s : TaskSet) (room : length (s .tasks) ≡ most-tasks) (e : admission 
   unfolding shapes-of
   shaped shapes es =
       record {
-        framed = λ p h.
-            rw (ordered-tasks s) (ordered-admitted (s .policy) tasks (admitted-set-is-admitted s room e) .each-task p (rw (ordered-tasks s) at h) .well-formed .has-frame);
+        admitted = λ p h. rw (ordered-tasks s) (ordered-admitted (s .policy) tasks (admitted-set-is-admitted s room e) .each-task p (rw (ordered-tasks s) at h));
         numbered = λ p h. let k = in-tasks p h in rw (number-there p k) (omega (arith, order-permutes (s .policy) tasks .each-place p k, few-tasks));
         shape-is = λ p h. let k = in-tasks p h in
             rw (es, number-there p k, ordered-tasks s, ordered-at (s .policy) tasks p k) (shape-there tasks (getD (priority-order (s .policy) tasks) p 0) (order-permutes (s .policy) tasks .each-place p k));

@@ -1,4 +1,6 @@
 -- Definitions that only private contracts use.
+pub mod Demand
+pub mod Response
 pub mod Steps
 pub mod Numbered
 pub mod Delivery

@@ -1,20 +1,25 @@
 // What is found of each task of an ordered set, place by place.
 ghost use mathlib.Core.Path.{_≡_};
 ghost use mathlib.Core.Bool.{true};
-ghost use Rattle.theory.specs.Tasks.{shortest-deadline};
+ghost use Prim.Native.Nat.{_≤_};
+ghost use Rattle.theory.specs.Tasks.{shortest-deadline, WellFormed};
+ghost use Rattle.sheet.specs.Constants.{most-tasks};
 ghost use Rattle.sheet.specs.Tasks.{task-in};
 ghost use Rattle.admission.specs.Judged.{shape-of};
 ghost use Rattle.order.specs.Ordered.{tasks-in-order};
-ghost use Rattle.response.specs.Response.{response-to};
 ghost use Rattle.analysis.specs.Times.{slots-by};
 ghost use Rattle.analysis.specs.Findings.{findings-of};
+ghost use Rattle.analysis.specs.Inside.Demand.{Tallies};
+ghost use Rattle.analysis.specs.Inside.Response.{response-to};
 ghost use Rattle.analysis.specs.Inside.Steps.{ShapesStand, numbers-of, as-written, times-to, finding-with, finding-to};
 use crate::Finding;
+use crate::demand::Above;
+use crate::demand::Tally;
+use crate::demand::tally_of;
+use crate::response::Response;
+use crate::response::respond;
 use admission::Shape;
 use order::Ordered;
-use response::Above;
-use response::Higher;
-use response::Response;
 use sheet::Sheet;
 use sheet::Task;
 
@@ -30,14 +35,15 @@ fn as_written(r: Response) -> u32
 
 // The response times of a task, in eight slots; those of its largest frames are known.
 fn times_to(
-    above: Above,
+    above: &Above,
+    place: usize,
     blocked: u32,
     task: Task,
     largest: u32,
     known: u32,
 ) -> [u32; Sheet::FRAME_ROOM]
-    requires { ⌜ known ≡ as-written (response-to above blocked largest (shortest-deadline (task-in task))) ⌝ }
-    ensures { λ r. ⌜ r ≡ slots-by true (times-to above blocked task) ⌝ }
+    requires { ⌜ (place ≤ most-tasks) × Tallies place (now above) × WellFormed (task-in task) × ((tallies : Tallies place (now above)) → known ≡ as-written (response-to (tallies .tasks) blocked largest (shortest-deadline (task-in task)))) ⌝ }
+    ensures { λ r. ⌜ ((tallies : Tallies place (now (above .entry))) → r ≡ slots-by true (times-to (tallies .tasks) blocked task)) ⌝ }
 {
     let frames = task.frames;
     let count = sheet::in_use(task.frame_count as usize, Sheet::FRAME_ROOM);
@@ -48,7 +54,7 @@ fn times_to(
             times[k] = known;
         } else {
             let d = sheet::deadline_of(task, k);
-            let t = as_written(response::respond(above, blocked, c, d));
+            let t = as_written(respond(above, place, blocked, c, d));
             times[k] = t;
         }
     }
@@ -78,18 +84,31 @@ fn finding(
 }
 
 // A task passes if its largest frame has a response time.
-fn finding_of(above: Above, number: u32, blocked: u32, task: Task, shape: Shape) -> Finding
-    requires { ⌜ shape ≡ shape-of (task-in task) ⌝ }
-    ensures { λ r. ⌜ r ≡ finding-to above number blocked task ⌝ }
+fn finding_of(
+    above: &Above,
+    place: usize,
+    number: u32,
+    blocked: u32,
+    task: Task,
+    shape: Shape,
+) -> Finding
+    requires { ⌜ (place ≤ most-tasks) × Tallies place (now above) × WellFormed (task-in task) × (shape ≡ shape-of (task-in task)) ⌝ }
+    ensures { λ r. ⌜ ((tallies : Tallies place (now (above .entry))) → r ≡ finding-to (tallies .tasks) number blocked task) ⌝ }
 {
     let largest = shape.largest;
-    match response::respond(above, blocked, largest, sheet::shortest_deadline(task)) {
+    match respond(
+        above,
+        place,
+        blocked,
+        largest,
+        sheet::shortest_deadline(task),
+    ) {
         Response::At(t) => finding(
             number,
             blocked,
             task,
             true,
-            times_to(above, blocked, task, largest, t),
+            times_to(above, place, blocked, task, largest, t),
         ),
         Response::Never => finding(number, blocked, task, false, [0; Sheet::FRAME_ROOM]),
     }
@@ -104,27 +123,17 @@ pub fn findings_of(o: Ordered, shapes: [Shape; Sheet::TASK_ROOM]) -> [Finding; S
     let numbers = o.numbers;
     let count = sheet::in_use(o.count as usize, Sheet::TASK_ROOM);
     let mut findings = [Finding::blank(); Sheet::TASK_ROOM];
-    let nobody = Higher {
-        start: 0,
-        task: Task::blank(),
-    };
-    let mut above = Above {
-        count: 0,
-        tasks: [nobody; Sheet::TASK_ROOM],
-    };
+    let blank = [0u64; Tally::WIDTH];
+    let mut above = [blank; Sheet::TASK_ROOM];
     for p in 0..count {
         let task = tasks[p];
         let number = numbers[p];
         let shape = shapes[number as usize];
         let blocked = order::blocking(o, p as u32);
-        let f = finding_of(above, number, blocked, task, shape);
+        let f = finding_of(&above, p, number, blocked, task, shape);
         findings[p] = f;
-        let h = Higher {
-            start: shape.start,
-            task,
-        };
-        above.tasks[p] = h;
-        above.count = p as u32 + 1;
+        let tally = tally_of(task, shape.start);
+        above[p] = tally;
     }
     findings
 }

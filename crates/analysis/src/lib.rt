@@ -10,7 +10,9 @@ ghost use Rattle.analysis.specs.Answers.{blocker-code, code, refused-ana
 ghost use Rattle.analysis.specs.Inside.Steps.{RightlyJudged};
 
 mod delivery;
+mod demand;
 mod findings;
+mod response;
 mod verdict;
 
 use admission::Judged;

@@ -5,9 +5,9 @@ use mathlib.Core.Path.{_≡_, refl, sym, _∙_, ap}
 use Prim.Native.Nat.{ℕ, zero, suc, _+_, _-_, _*_, _/_, _%_, _≤_, _<_}
 use native.Mathlib.Nat.{ℕ-set, le-refl, le-trans, le-of-eq, add-le-add, le-add-left, le-antisymm, le-div-iff-mul-le, div-mul-le-self, div-zero, div-add-mod', mod-lt, zero-mul, suc-mul, add-left-comm}
 use native.Mathlib.Omega.{arith}
-use Rattle.theory.specs.Tasks.{work}
+use Rattle.theory.specs.Tasks.{Task, frame, work}
 use Rattle.theory.specs.Analysis.{Higher, releases, higher-work, demand}
-use Rattle.theory.proofs.Work.{work-mono}
+use Rattle.theory.proofs.Work.{work-mono, work-in-periods}
 
 -- ---- ⌈t/T⌉
 
@@ -37,6 +37,15 @@ module _ {T : ℕ} (positive : 1 ≤ T) where
       no-less : (n : ℕ) → n * T < t + T → n ≤ releases t T
       no-less zero h = omega arith
       no-less (suc m) h = releases-more m t positive .1 (omega (arith, suc-mul m T))
+
+  -- as many periods are less than t and one period more
+  pub releases-less : (t : ℕ) → releases t T * T < t + T
+  unfolding releases
+  releases-less t = omega (arith, div-mul-le-self (t + (T - 1)) T)
+
+  -- .. and so is the work of as many jobs, where frames lie within the period
+  pub released-less : (u : Task) → ((k : ℕ) → frame u k ≤ T) → (s t : ℕ) → work u s (releases t T) < t + T
+  released-less u within s t = omega (arith, work-in-periods u within s (releases t T), releases-less t)
 
   -- tick m of its period
   in-period : (m : ℕ) → (m ≡ m / T * T + m % T) × (m % T < T) × (suc (m / T) * T ≡ m / T * T + T)

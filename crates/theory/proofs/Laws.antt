@@ -1,9 +1,12 @@
 -- The laws that other crates cite, gathered in one place.
 
 -- frames and the work of n jobs: one job more, whole rounds, monotone in n and in frames
-pub use Rattle.theory.proofs.Work.{work-zero, work-suc, work-one, work-add, work-mono, work-mod, whole-rounds, work-frames}
+pub use Rattle.theory.proofs.Work.{work-zero, work-suc, work-one, work-add, work-mono, work-mod, whole-round, whole-rounds, work-frames}
 -- the start frame and the largest frame: what they are, and that nothing else is
 pub use Rattle.theory.proofs.Work.{qualifies-test, monotonic-test, IsStart, start-is, start-when, start-most, IsLargest, largest-is, largest-when, frame-le-largest}
+-- frames within the period: the work of ⌈t/T⌉ jobs is less than t + T
+pub use Rattle.theory.proofs.Work.{frame-in-period, period-positive, work-in-periods}
+pub use Rattle.theory.proofs.Demand.{released-less}
 -- the shortest deadline
 pub use Rattle.theory.proofs.Work.{IsShortest, shortest-is}
 -- admitted, as a test
@@ -11,7 +14,7 @@ pub use Rattle.theory.proofs.Tests.{admitted-task-is, admitted-is}
 -- blocking and blocker
 pub use Rattle.theory.proofs.Blocking.{lower-lock, largest-lock-step, largest-lock-last, IsBlocker, blocker-is, blocker-when, no-blocker, no-blocker-when}
 -- ⌈t/T⌉
-pub use Rattle.theory.proofs.Demand.{releases-more, releases-mono, releases-is, releases-zero, releases-suc}
+pub use Rattle.theory.proofs.Demand.{releases-more, releases-mono, releases-is, releases-zero, releases-suc, releases-less}
 -- demand: monotone in t, in blocking, in frames and in the set above; the same in any order of the tasks above; as a sum over places
 pub use Rattle.theory.proofs.Demand.{AtLeast, Within, nobody, extra, each, within-refl, demand-mono, demand-order}
 pub use Rattle.theory.proofs.Places.{sum-below, sum-zero, sum-suc, work-in, higher-work-sum}

@@ -7,8 +7,8 @@ use native.Mathlib.Nat.{ℕ-set}
 use native.Mathlib.Omega.{arith}
 use lib.ListN.{take}
 use Rattle.theory.specs.First.{found}
-use Rattle.theory.specs.Tasks.{Task, task-at, frame, deadline-of, largest, largest-frame, start-frame}
-use Rattle.theory.specs.Analysis.{lower, largest-lock, blocking, higher, demand, response, demand-of, response-of, passes}
+use Rattle.theory.specs.Tasks.{Task, task-at, frame, deadline-of, largest, largest-frame}
+use Rattle.theory.specs.Analysis.{lower, largest-lock, blocking, from-start, higher, demand, response, demand-of, response-of, passes}
 use Rattle.theory.proofs.Demand.{demand-order}
 
 map-permᴰ : {X Y : Type 0} (f : X → Y) {ls rs : List X} → List·Permᴰ ls rs → List·Permᴰ (map f ls) (map f rs)
@@ -41,7 +41,7 @@ module _ {set : List Task} {p : ℕ} {set′ : List Task} {p′ : ℕ} (same : S
   demand-of-same k t =
       ap (λ B. demand B (frame (task-at set p) k) (higher set p) t) (blocking-order (same .same-below))
       ∙ ap (λ u. demand (blocking (lower set′ p′)) (frame u k) (higher set p) t) (same .same-task)
-      ∙ demand-order _ _ (∥∥₁-map (same .same-above) (λ d. map-permᴰ (λ u. record { task = u; start = start-frame u }) d)) t
+      ∙ demand-order _ _ (∥∥₁-map (same .same-above) (λ d. map-permᴰ from-start d)) t
 
   pub response-of-same : (k : ℕ) → response-of set p k ≡ response-of set′ p′ k
   unfolding response-of

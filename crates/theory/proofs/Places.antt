@@ -8,7 +8,7 @@ use native.Mathlib.Omega.{arith}
 use lib.ListN.{length, getD, take}
 use lib.Seq.{take-suc}
 use Rattle.theory.specs.Tasks.{Task, task-at, work, start-frame}
-use Rattle.theory.specs.Analysis.{Higher, higher, releases, higher-work}
+use Rattle.theory.specs.Analysis.{Higher, from-start, higher, releases, higher-work}
 
 -- what stands past the end of a set
 abbrev pub zeros : Task
@@ -95,15 +95,12 @@ higher-work-append (h ∷ hs) gs t = let ih : higher-work (hs ++ gs) t ≡ highe
 unfoldable pub work-in : List Task → ℕ → ℕ → ℕ
 work-in set t q = work (task-at set q) (start-frame (task-at set q)) (releases t (task-at set q .period))
 
-with-start : Task → Higher
-with-start t = record { task = t; start = start-frame t }
-
 pub higher-work-sum : (set : List Task) (p t : ℕ) → p ≤ length set → higher-work (higher set p) t ≡ sum-below p (work-in set t)
-unfolding higher higher-work sum-below work-in task-at with-start
+unfolding higher higher-work sum-below work-in task-at
 higher-work-sum set zero t h = refl
 higher-work-sum set (suc p) t h =
-    ap (λ ts. higher-work (map with-start ts) t) (take-suc set p zeros h)
-    ∙ ap (λ hs. higher-work hs t) (map-append with-start (take p set) (getD set p zeros ∷ []))
-    ∙ higher-work-append (map with-start (take p set)) (with-start (getD set p zeros) ∷ []) t
+    ap (λ ts. higher-work (map from-start ts) t) (take-suc set p zeros h)
+    ∙ ap (λ hs. higher-work hs t) (map-append from-start (take p set) (getD set p zeros ∷ []))
+    ∙ higher-work-append (map from-start (take p set)) (from-start (getD set p zeros) ∷ []) t
     ∙ ap (λ x. x + (work-in set t p + 0)) (higher-work-sum set p t (omega arith))
     ∙ ap (λ x. sum-below p (work-in set t) + x) (add-zero (work-in set t p))

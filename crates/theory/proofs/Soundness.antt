@@ -12,7 +12,7 @@ use lib.ListN.{length}
 use Rattle.theory.specs.Tasks.{Task, task-at, frame-count, frame, deadline-of, work, WellFormed, Admitted}
 use Rattle.theory.specs.Analysis.{lower, blocking, higher, releases, higher-work, demand, IsResponse, demand-of, response-of, passes}
 use Rattle.theory.specs.Runs.{job, Run, state-at, Legal, TakesLonger}
-use Rattle.theory.proofs.Work.{work-mono, work-one, start-most}
+use Rattle.theory.proofs.Work.{work-mono, work-one, start-most, period-positive}
 use Rattle.theory.proofs.Places.{sum-below, sum-suc, sum-le, sum-add, work-in, higher-work-sum}
 use Rattle.theory.proofs.Verdict.{response-of-is, passes-frames}
 use Rattle.theory.proofs.Lanes.{release-mem}
@@ -117,11 +117,6 @@ module _ (set : List Task) (run : Run) (legal : Legal set run) (p : ℕ) (in-set
         go (inr (now, next, _)) = omega (arith, e .positive k (rw next (frame-at (r + x) (l .reached))))
 
 -- ---- with accumulative monotony: the demand bounds the work from every choice of frames
-
-period-positive : {t : Task} → WellFormed t → 1 ≤ t .period
-period-positive {t} w =
-    let first-in : 0 < frame-count t = w .has-frame in
-    omega (arith, w .frame-positive 0 first-in, w .frame-in-deadline 0 first-in, w .deadline-in-period 0 first-in)
 
 pub period-of : (set : List Task) → Admitted set → (q : ℕ) → q < length set → 1 ≤ task-at set q .period
 period-of set admitted q h = period-positive (admitted .each-task q h .well-formed)

@@ -6,7 +6,7 @@ use mathlib.Core.Option.{some}
 use mathlib.Core.Path.{_≡_, refl, sym, _∙_, ap}
 use Prim.Native.Nat.{ℕ, zero, suc, _+_, _*_, _%_, _≤_, _<_}
 use native.Mathlib.Decide.{decLe}
-use native.Mathlib.Nat.{add-zero, add-suc, add-assoc, add-comm, zero-mul, le-refl, le-trans, le-antisymm, mod-mod, suc-mod, mod-lt, mod-add-mod, add-mod-right, mod-eq-of-lt, div-add-mod', le-max-left, le-max-right, max-eq-left, max-eq-right, max-zero, zero-add, le-dest, le-add-right, add-le-add, add-left-cancel}
+use native.Mathlib.Nat.{add-zero, add-suc, add-assoc, add-comm, zero-mul, suc-mul, le-refl, le-trans, le-antisymm, mod-mod, suc-mod, mod-lt, mod-add-mod, add-mod-right, mod-eq-of-lt, div-add-mod', le-max-left, le-max-right, max-eq-left, max-eq-right, max-zero, zero-add, le-dest, le-add-right, add-le-add, add-left-cancel}
 use native.Mathlib.Numerals.{add-one, one-add}
 use native.Mathlib.Omega.{arith}
 use borrow.Author.Tests.{leb-true, le-leb, eqb-true, eqb-false, eq-eqb}
@@ -14,7 +14,7 @@ use lib.Arith.{lt-of-le-ne}
 use lib.Dec.{leb, eqb}
 use lib.ListN.{length, getD}
 use Rattle.theory.specs.First.{first, every, found}
-use Rattle.theory.specs.Tasks.{Task, frame-count, next-frame, frame, deadline-of, shortest-deadline, work, largest, largest-frame, Qualifies, qualifies, start-frame, Monotonic}
+use Rattle.theory.specs.Tasks.{Task, frame-count, next-frame, frame, deadline-of, shortest-deadline, work, largest, largest-frame, Qualifies, qualifies, start-frame, WellFormed, Monotonic}
 use Rattle.theory.proofs.Search.{found-some, some-found, IsFirst, first-some, first-exists, every-at, every-is}
 
 module _ (t : Task) where
@@ -215,6 +215,23 @@ module _ (t : Task) where
   -- every frame's time is at most that of the largest frame
   pub frame-le-largest-frame : 1 ≤ frame-count t → (k : ℕ) → frame t k ≤ frame t (largest-frame t)
   frame-le-largest-frame h k = rw (largest-is h .largest-time) (frame-le-largest k)
+
+-- ---- frames within the period
+
+-- a frame of a well-formed task lies within its period
+pub frame-in-period : (t : Task) → WellFormed t → (k : ℕ) → frame t k ≤ t .period
+frame-in-period t w k =
+    let there : k % frame-count t < frame-count t = mod-lt k (w .has-frame) in
+    rw (← frame-mod t k) (le-trans (w .frame-in-deadline (k % frame-count t) there) (w .deadline-in-period (k % frame-count t) there))
+
+-- which is at least one tick long
+pub period-positive : {t : Task} → WellFormed t → 1 ≤ t .period
+period-positive {t} w = omega (arith, w .frame-positive 0 (w .has-frame), frame-in-period t w 0)
+
+-- n jobs of frames within a period fit into n periods
+pub work-in-periods : (t : Task) {T : ℕ} → ((k : ℕ) → frame t k ≤ T) → (s n : ℕ) → work t s n ≤ n * T
+work-in-periods t {T} within s zero = rw (work-zero t s, zero-mul T) (le-refl 0)
+work-in-periods t {T} within s (suc n) = rw (work-suc t s n, suc-mul n T) (add-le-add (work-in-periods t within s n) (within (s + n)))
 
 -- ---- the shortest deadline
 

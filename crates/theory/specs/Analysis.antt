@@ -31,9 +31,13 @@ pub record Higher : Type 0 where
   pub task : Task
   pub start : ℕ
 
+-- a task, its work counted from its start frame
+abbrev pub from-start : Task → Higher
+from-start t = record { task = t; start = start-frame t }
+
 -- the tasks of higher priority than place p, each from its start frame
 unfoldable pub higher : List Task → ℕ → List Higher
-higher set p = map (λ t. record { task = t; start = start-frame t }) (take p set)
+higher set p = map from-start (take p set)
 
 -- how many jobs a task can have released in a window of t ticks: ⌈t/T⌉
 unfoldable pub releases : ℕ → ℕ → ℕ

@@ -2,9 +2,10 @@
 use mathlib.Core.Bool.{Bool, true, false}
 use mathlib.Core.List.{List, map}
 use mathlib.Core.Path.{_≡_}
-use Prim.Native.Nat.{ℕ, _≤_, _<_}
+use Prim.Native.Nat.{ℕ, _<_}
 use lib.ListN.{length, getD, take}
-use Rattle.theory.specs.Tasks.{Task, task-at, frame-count, largest, shortest-deadline}
+use Rattle.theory.specs.Tasks.{Task, task-at, frame-count, largest, shortest-deadline, AdmittedTask}
+use Rattle.theory.specs.Analysis.{Higher}
 use Rattle.sheet.specs.Constants.{most-tasks}
 use Rattle.sheet.specs.Tasks.{task-in, records-of}
 use Rattle.sheet.specs.Admission.{admission}
@@ -15,10 +16,9 @@ use Rattle.admission.specs.declared.Shape.{Shape}
 use Rattle.order.specs.Ordered.{tasks-in-order}
 use Rattle.sheet.specs.declared.Task.{Task as Record}
 use Rattle.order.specs.declared.Ordered.{Ordered}
-use Rattle.response.specs.Response.{response-to}
-use Rattle.response.specs.declared.Response.{Response}
-use Rattle.response.specs.declared.Response.the-variants.{At, Never}
-use Rattle.response.specs.declared.Above.{Above}
+use Rattle.analysis.specs.Inside.Response.{response-to}
+use Rattle.analysis.specs.declared.response.Response.{Response}
+use Rattle.analysis.specs.declared.response.Response.the-variants.{At, Never}
 use Rattle.analysis.specs.Times.{slots-by}
 use Rattle.analysis.specs.declared.Finding.{Finding}
 
@@ -27,9 +27,9 @@ pub record RightlyJudged (j : Judged) : Type 0 where
   pub admits : j .answer ≡ Admitted → admission (j .set) ≡ Admitted
   pub shapes-are : j .answer ≡ Admitted → j .shapes ≡ shapes-of (map task-in (records-of (j .set)))
 
--- an ordered set and its shapes by number: each task has a frame, and at its number stands its shape
+-- an ordered set and its shapes by number: each task is admitted, and at its number stands its shape
 pub record ShapesStand (o : Ordered) (shapes : List Shape) : Type 0 where
-  pub framed : (p : ℕ) → p < length (tasks-in-order o) → 1 ≤ frame-count (task-at (tasks-in-order o) p)
+  pub admitted : (p : ℕ) → p < length (tasks-in-order o) → AdmittedTask (task-at (tasks-in-order o) p)
   pub numbered : (p : ℕ) → p < length (tasks-in-order o) → getD (o .numbers) p 0 < most-tasks
   pub shape-is : (p : ℕ) → p < length (tasks-in-order o) → getD shapes (getD (o .numbers) p 0) no-shape ≡ shape-of (task-at (tasks-in-order o) p)
 
@@ -47,7 +47,7 @@ is-there (At t) = true
 is-there Never = false
 
 -- the times of a task's frames, by the tasks above it and its blocking
-unfoldable pub times-to : Above → ℕ → Record → List ℕ
+unfoldable pub times-to : List Higher → ℕ → Record → List ℕ
 times-to above blocked r =
     let t = task-in r in
     map (λ c. as-written (response-to above blocked c (shortest-deadline t))) (t .frames)
@@ -66,7 +66,7 @@ finding-with number blocked t passes times =
     }
 
 -- .. by the tasks above it and its blocking
-unfoldable pub finding-to : Above → ℕ → ℕ → Record → Finding
+unfoldable pub finding-to : List Higher → ℕ → ℕ → Record → Finding
 finding-to above number blocked r =
     let t = task-in r in
     let pass = is-there (response-to above blocked (largest (t .frames)) (shortest-deadline t)) in

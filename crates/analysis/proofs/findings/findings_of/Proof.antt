@@ -1,15 +1,20 @@
 -- `findings_of` meets its contract.
 use mathlib.Core.Path.{_≡_, refl, sym, ap, _∙_}
-use Prim.Native.Nat.{_≤_, _<_, _-_}
+use Prim.Native.Nat.{ℕ, _≤_, _<_, _-_}
 use native.Mathlib.Omega.{arith}
 use lib.ListN.{length, getD}
-use Rattle.theory.specs.Tasks.{Task, start-frame}
+use Rattle.theory.specs.Tasks.{Task as TheoryTask, task-at, frame-count, start-frame, WellFormed}
+use Rattle.theory.proofs.Laws.{start-is}
 use Rattle.sheet.specs.Constants.{most-tasks}
+use Rattle.sheet.specs.Tasks.{task-in, no-record}
+use Rattle.sheet.specs.declared.Task.{Task}
 use Rattle.sheet.proofs.Records.{mapped-length}
-use Rattle.admission.specs.Judged.{shape-of}
+use Rattle.admission.specs.Judged.{shape-of, no-shape}
 use Rattle.admission.specs.declared.Shape.{Shape}
 use Rattle.order.specs.Ordered.{tasks-in-order}
-use Rattle.analysis.proofs.Growing.{Grown, none-grown, grown-more, all-grown}
+use Rattle.order.specs.declared.Ordered.{Ordered}
+use Rattle.analysis.specs.Inside.Demand.{Tallies}
+use Rattle.analysis.proofs.Growing.{Grown, none-grown, tallies-above, grown-more, all-grown}
 use Rattle.analysis.proofs.InUse.{tasks-count, task-is}
 use borrow.Author.Needs.{needs}
 use Rattle.analysis.proofs.findings.findings_of.Statement.{statement}
@@ -23,15 +28,9 @@ abbrev μ-loop : tie.MeasureT-loop
 μ-loop o shapes tasks numbers count findings₀ above₀ p₀ findings above p = count - p
 
 -- the start frame of a shape is the task's
-start-is : (s : Shape) (t : Task) → s ≡ shape-of t → s .start ≡ start-frame t
+shape-start : (s : Shape) (t : TheoryTask) → s ≡ shape-of t → s .start ≡ start-frame t
 unfolding shape-of
-start-is s t e = ap (λ (x : Shape). x .start) e
-
--- there is a shape at the number of a task
-below : (c : tie.After-task Inv-loop μ-loop) → getD (c .before .before .before .before .before .before .before .before .before .args .o .numbers) (c .before .before .loop .p) 0 < most-tasks
-below c =
-    let at = c .before .before in
-    c .before .before .before .before .before .before .before .before .before .pre .numbered (at .loop .p) (omega (arith, at .loop .inv .1))
+shape-start s t e = ap (λ (x : Shape). x .start) e
 
 cast-in-use : tie.Need-cast-in-use Inv-loop μ-loop
 cast-in-use c = search needs
@@ -42,14 +41,11 @@ in-use-requires c κs = search needs
 blank-requires : tie.Need-blank-requires Inv-loop μ-loop
 blank-requires c κs = search needs
 
-blank-requires-2 : tie.Need-blank-requires-2 Inv-loop μ-loop
-blank-requires-2 c κs = search needs
-
 loop-holds : tie.Need-loop-holds Inv-loop μ-loop
 loop-holds c =
-    let o = c .before .before .before .before .before .before .args .o in
+    let o = c .before .before .before .before .before .args .o in
     let room : length (o .tasks) ≡ most-tasks = search (needs, mapped-length) in
-    (search needs, tasks-count o _ (c .before .before .in-use .ensures, room), omega arith, room, none-grown o _ _ (c .before .blank .ensures))
+    (search needs, tasks-count o _ (c .before .in-use .ensures, room), omega arith, room, none-grown o _ _ (c .blank .ensures))
 
 mul-task : tie.Need-mul-task Inv-loop μ-loop
 mul-task c = search needs
@@ -63,14 +59,56 @@ mul-number c = search needs
 array-read-number : tie.Need-array-read-number Inv-loop μ-loop
 array-read-number c = search needs
 
+-- the task of the place, its start frame and its shape
+module _ (c : tie.In-loop Inv-loop μ-loop) where
+  abbrev start : tie.Start Inv-loop μ-loop
+  start = c .before .before .before .before .before .before .before
+
+  abbrev o : Ordered
+  o = start .args .o
+
+  abbrev p : ℕ
+  p = c .before .loop .p
+
+  abbrev task : Task
+  task = getD (o .tasks) p no-record
+
+  abbrev shape : Shape
+  shape = getD (start .args .t2) (getD (o .numbers) p 0) no-shape
+
+  inside : p < length (tasks-in-order o)
+  inside = omega (arith, c .before .loop .inv .1)
+
+  -- there is a shape at the number of a task
+  below : getD (o .numbers) p 0 < most-tasks
+  below = start .pre .numbered p inside
+
+  few : length (tasks-in-order o) ≤ most-tasks
+  few = omega (arith, c .before .loop .inv .1)
+
+  task-there : task-in task ≡ task-at (tasks-in-order o) p
+  task-there = task-is o p no-record inside (c .before .loop .inv .3)
+
+  shape-there : shape ≡ shape-of (task-in task)
+  shape-there = start .pre .shape-is p inside ∙ ap shape-of (sym task-there)
+
+  well-formed : WellFormed (task-in task)
+  well-formed = rw task-there (start .pre .admitted p inside .well-formed)
+
+  start-in : shape .start < frame-count (task-in task)
+  start-in = rw (shape-start _ _ shape-there) (start-is (task-in task) (rw task-there (start .pre .admitted p inside .monotonic)) .start-in)
+
+  abbrev tallies : Tallies p (c .before .loop .above)
+  tallies = tallies-above o (start .args .t2) (start .pre) few _ _ p inside (c .before .loop .inv .4)
+
 cast-shape : tie.Need-cast-shape Inv-loop μ-loop
-cast-shape c = record { fits = omega (arith, below c) }
+cast-shape c = record { fits = omega (arith, below (c .before)) }
 
 mul-shape : tie.Need-mul-shape Inv-loop μ-loop
-mul-shape c = record { fits = omega (arith, below c) }
+mul-shape c = record { fits = omega (arith, below (c .before)) }
 
 array-copy-out-shape : tie.Need-array-copy-out-shape Inv-loop μ-loop
-array-copy-out-shape c = below c
+array-copy-out-shape c = below (c .before)
 
 cast-blocking : tie.Need-cast-blocking Inv-loop μ-loop
 cast-blocking c = search needs
@@ -79,11 +117,7 @@ blocking-requires : tie.Need-blocking-requires Inv-loop μ-loop
 blocking-requires c κs = search needs
 
 finding-of-requires : tie.Need-finding-of-requires Inv-loop μ-loop
-finding-of-requires c κs =
-    let at = c .before .before .before .before in
-    let start = c .before .before .before .before .before .before .before .before .before .before .before in
-    let inside : at .loop .p < length (tasks-in-order (start .args .o)) = omega (arith, at .loop .inv .1) in
-    start .pre .shape-is (at .loop .p) inside ∙ ap shape-of (sym (task-is (start .args .o) (at .loop .p) _ inside (at .loop .inv .3)))
+finding-of-requires c κs = let at = c .before .before .before .before in (omega arith, tallies at, well-formed at, shape-there at)
 
 mul-findings : tie.Need-mul-findings Inv-loop μ-loop
 mul-findings c = search needs
@@ -91,17 +125,14 @@ mul-findings c = search needs
 array-set-from-findings : tie.Need-array-set-from-findings Inv-loop μ-loop
 array-set-from-findings c = search needs
 
-mul-h : tie.Need-mul-h Inv-loop μ-loop
-mul-h c = search needs
+tally-of-requires : tie.Need-tally-of-requires Inv-loop μ-loop
+tally-of-requires c κs = start-in (c .before .before .before .before .before)
 
-element-set-from-h : tie.Need-element-set-from-h Inv-loop μ-loop
-element-set-from-h c = search needs
+mul-above : tie.Need-mul-above Inv-loop μ-loop
+mul-above c = search needs
 
-cast-above : tie.Need-cast-above Inv-loop μ-loop
-cast-above c = search needs
-
-add-above : tie.Need-add-above Inv-loop μ-loop
-add-above c = search needs
+array-set-from-above : tie.Need-array-set-from-above Inv-loop μ-loop
+array-set-from-above c = search needs
 
 add-p : tie.Need-add-p Inv-loop μ-loop
 add-p c = search needs
@@ -111,24 +142,18 @@ loop-less c = search needs
 
 loop-again : tie.Need-loop-again Inv-loop μ-loop
 loop-again c =
-    let at = c .before .before .before .before .before in
-    let start = c .before .before .before .before .before .before .before .before .before .before .before .before in
-    let o = start .args .o in
-    let p = at .loop .p in
-    let inside : p < length (tasks-in-order o) = omega (arith, at .loop .inv .1) in
-    let few : length (tasks-in-order o) ≤ most-tasks = omega (arith, at .loop .inv .1) in
-    let task = task-is o p _ inside (at .loop .inv .3) in (
+    let at = c .before .before .before .before .before .before in (
       search needs,
-      at .loop .inv .1,
-      at .loop .inv .2,
-      at .loop .inv .3,
-      grown-more o (start .args .t2) (start .pre) few _ _ p _ _ _ _ _ inside (at .loop .inv .4) task refl (c .before .blocking .ensures) (c .finding-of .ensures)
-          (start-is _ _ (start .pre .shape-is p inside ∙ ap shape-of (sym task))),
+      at .before .loop .inv .1,
+      at .before .loop .inv .2,
+      at .before .loop .inv .3,
+      grown-more (o at) (start at .args .t2) (start at .pre) (few at) _ _ (p at) (inside at) (at .before .loop .inv .4) _ _ _ (task at) _ _ (task-there at) refl
+          (c .before .before .before .blocking .ensures) (c .before .finding-of .ensures (tallies at)) (shape-start _ _ (shape-there at)) (c .tally-of .ensures),
     )
 
 returns : tie.Need-returns Inv-loop μ-loop
 returns c =
-    let start = c .before .before .before .before .before .before .before .before in
+    let start = c .before .before .before .before .before .before .before in
     all-grown (start .args .o) (start .args .t2) (start .pre) (omega (arith, c .before .loop .inv .1)) _ _ _ (omega (arith, c .before .loop .inv .1)) (c .before .loop .inv .4)
 
 pub findings-of-spec : {M : Type 1} → statement M
@@ -140,7 +165,6 @@ findings-of-spec =
     cast-in-use
     in-use-requires
     blank-requires
-    blank-requires-2
     loop-holds
     mul-task
     array-copy-out-task
@@ -154,10 +178,9 @@ findings-of-spec =
     finding-of-requires
     mul-findings
     array-set-from-findings
-    mul-h
-    element-set-from-h
-    cast-above
-    add-above
+    tally-of-requires
+    mul-above
+    array-set-from-above
     add-p
     loop-less
     loop-again
