@@ -73,6 +73,16 @@ fn one_larger_frame() -> Set {
     Set { policy: 0, tasks }
 }
 
+/// Short periods that leave a hundred-thousandth of the processor, so that the long times below take very many rounds; two of the short tasks miss, and the long times are still written.
+fn costliest_found() -> Set {
+    let plain = |period: u32, frames: Vec<u32>| Task { period, deadline: period, lock: 0, frames };
+    let short = [(19, 8), (9, 1), (23, 1), (22, 1), (17, 1), (10, 3), (16, 1), (39, 4), (2, 1), (2_875, 1)];
+    let mut tasks: Vec<Task> = short.map(|(period, frames)| plain(period, vec![1; frames])).to_vec();
+    tasks.extend((short.len()..MOST_TASKS).map(|_| plain(MOST_TICKS, vec![2, 1, 1, 1, 1, 1, 1, 1])));
+    tasks[MOST_TASKS - 1].lock = 2;
+    Set { policy: 0, tasks }
+}
+
 fn main() {
     let mut random = Random::new(60);
     let sets: Vec<Set> = (0..2_000).map(|_| typical(&mut random)).collect();
@@ -80,7 +90,8 @@ fn main() {
     let sets: Vec<Set> = (0..2_000).map(|_| generate::admitted_set(&mut random)).collect();
     measure("any: 1 to 16 tasks, 1 to 8 frames", &sets, 10, 5);
     let [missing, holding] = generate::costly_sets();
-    measure("costliest to a miss", &[missing], 1, 20);
-    measure("costliest to times, equal frames", &[holding], 1, 4);
-    measure("costliest to times, one larger frame", &[one_larger_frame()], 1, 10);
+    measure("slow climb to a miss", &[missing], 1, 20);
+    measure("slow climb to times, equal frames", &[holding], 1, 4);
+    measure("slow climb to times, one larger frame", &[one_larger_frame()], 1, 10);
+    measure("the costliest found", &[costliest_found()], 1, 3);
 }

@@ -8,6 +8,7 @@ pub mod check_word;
 #[cfg(feature = "proved")]
 pub mod compared;
 pub mod generate;
+pub mod jobs;
 #[cfg(feature = "proved")]
 pub mod proved;
 pub mod random;

@@ -1,9 +1,10 @@
 //! The second program on generated inputs: every refusal in every way, round trips, lent room, and the equation by its plain words.
 use second::analysis::{self, analyse, Verdict};
 use second::generate::{self, Draft};
+use second::jobs::Equation;
 use second::random::Random;
 use second::refusal::Refusal;
-use second::task::{admit_list, start_frame, Record, Set, MOST_FRAMES, MOST_TASKS};
+use second::task::{admit_list, Record, Set, MOST_FRAMES, MOST_TASKS};
 use second::{bits, check_word, report, sheet};
 use std::collections::{BTreeMap, BTreeSet};
 
@@ -160,19 +161,6 @@ fn filled<T: Clone>(room: usize, fits: bool, content: &[T], before: T) -> Vec<T>
     written.iter().cloned().chain(std::iter::repeat(before)).take(room).collect()
 }
 
-/// The equation as the scope says it: each t from 1 on, each job of each higher task.
-fn plain_response(set: &Set, order: &[usize], place: usize, frame: u32) -> Option<u32> {
-    let lower = order[place + 1..].iter().map(|&i| set.tasks[i].lock).max().unwrap_or(0);
-    let blocking = lower.max(1) - 1;
-    let work = |i: usize, t: u32| -> u32 {
-        let (task, start) = (&set.tasks[i], start_frame(&set.tasks[i].frames).unwrap());
-        let jobs = (t - 1) / task.period + 1;
-        (0..jobs as usize).map(|job| task.frames[(start + job) % task.frames.len()]).sum()
-    };
-    let demand = |t: u32| blocking + frame + order[..place].iter().map(|&i| work(i, t)).sum::<u32>();
-    (1..=set.tasks[order[place]].deadline).find(|&t| demand(t) <= t)
-}
-
 #[test]
 fn response_times_are_least_solutions() {
     let mut random = Random::new(20);
@@ -181,14 +169,12 @@ fn response_times_are_least_solutions() {
         let shape = generate::Shape { least_period: 4, greatest_period: 200, ..generate::shape(&mut random) };
         let set = generate::set_of(&mut random, shape);
         let analysis = analyse(&set);
-        for (place, &task) in analysis.order.iter().enumerate() {
-            let all = set.tasks[task].frames.iter().map(|&c| plain_response(&set, &analysis.order, place, c));
-            let all = all.collect::<Option<Vec<u32>>>();
-            match &all {
+        assert_eq!(analysis, Equation::of(&set).analysis(), "{set:?}");
+        for answer in &analysis.answers {
+            match answer.times {
                 Some(_) => times += 1,
                 None => missed += 1,
             }
-            assert_eq!(analysis.answers[task].times, all, "task {task} of {set:?}");
         }
     }
     println!("tasks by the plain equation: {times} with times, {missed} without");
