@@ -9,6 +9,7 @@ use lib.Dec.{eqb, lit<, lit≤}
 use lib.ListN.{length}
 use Rattle.theory.specs.First.{first, every, found}
 use Rattle.theory.specs.Tasks.{Task, task-at, frame-count, next-frame, frame, deadline-of, work, largest, largest-frame, qualifies, start-frame, Admitted}
+use Rattle.theory.specs.Reason.{exceeds, exceeding, exceeded, exceeded-length, exceeding-frame}
 use Rattle.theory.specs.Analysis.{lower, largest-lock, blocking, blocker, higher, releases, higher-work, demand, response, after-rounds, demand-of, response-of, rounds-of, passes, holds, missed, verdict}
 use Rattle.theory.specs.Runs.{job, Run, release-lane, release, oldest-left, pending, pick, serve, serve-lane, stretch-now, stretch-after, tick, start-state, step, state-at, seen-at, longest-stretch, Legal, TakesLonger, Takes, Misses}
 use Rattle.theory.specs.WorstRun.{below-own, role, worst-first, once, every-period, worst-release, worst-stretch, worst-run}
@@ -66,6 +67,35 @@ later-start = plain (2 ∷ 1 ∷ 2 ∷ []) 3 ∷ plain (2 ∷ []) 9 ∷ []
 later-start-is : (start-frame (task-at later-start 0) ≡ 2) × (largest-frame (task-at later-start 0) ≡ 0) × (response-of later-start 1 0 ≡ some 6)
 unfolding analysis
 later-start-is = (refl, refl, refl)
+
+-- two frames from that largest frame make 3 and from frame 2 make 4, and yet there is a start
+later-start-exceeded : (exceeded (task-at later-start 0) 0 ≡ some 2) × (exceeding (task-at later-start 0) 0 2 ≡ some 2)
+unfolding analysis exceeds exceeding exceeded
+later-start-exceeded = (refl, refl)
+
+-- a task with no start: two frames from the largest, frame 1, make 6, and two make more from each of the frames 0, 3 and 4, going round
+abbrev no-start : Task
+no-start = plain (3 ∷ 5 ∷ 1 ∷ 4 ∷ 4 ∷ []) 9
+
+no-start-is : (row (qualifies no-start) 0 5 ≡ false ∷ false ∷ false ∷ false ∷ false ∷ [])
+    × (row (λ k. work no-start k 2) 0 5 ≡ 8 ∷ 6 ∷ 5 ∷ 8 ∷ 7 ∷ [])
+    × (largest-frame no-start ≡ 1)
+    × (exceeded-length no-start ≡ 2)
+    × (exceeding-frame no-start ≡ 0)
+unfolding analysis exceeds exceeding exceeded exceeded-length exceeding-frame
+no-start-is = (refl, refl, refl, refl, refl)
+
+-- one with a longer reason: three frames from frame 0 make 18, and from frame 3 make 24
+abbrev no-start-later : Task
+no-start-later = plain (9 ∷ 8 ∷ 1 ∷ 8 ∷ 8 ∷ 8 ∷ []) 9
+
+no-start-later-is : (largest-frame no-start-later ≡ 0)
+    × (exceeded-length no-start-later ≡ 3)
+    × (exceeding-frame no-start-later ≡ 3)
+    × (row (λ n. work no-start-later 0 n) 1 3 ≡ 9 ∷ 17 ∷ 18 ∷ [])
+    × (row (λ n. work no-start-later 3 n) 1 3 ≡ 8 ∷ 16 ∷ 24 ∷ [])
+unfolding analysis exceeds exceeding exceeded exceeded-length exceeding-frame
+no-start-later-is = (refl, refl, refl, refl, refl)
 
 -- the rounds of its task 1: 2, 4, 6 and 6 again
 later-start-rounds : row (rounds-of later-start 1 0) 0 4 ≡ 2 ∷ 4 ∷ 6 ∷ 6 ∷ []

@@ -4,6 +4,8 @@
 pub use Rattle.theory.proofs.Work.{work-zero, work-suc, work-one, work-add, work-mono, work-mod, whole-round, whole-rounds, work-frames}
 -- the start frame and the largest frame: what they are, and that nothing else is
 pub use Rattle.theory.proofs.Work.{qualifies-test, monotonic-test, IsStart, start-is, start-when, start-most, IsLargest, largest-is, largest-when, frame-le-largest}
+-- why a task has no start: where no frame qualifies there is a reason, and only one; its length; its numbers
+pub use Rattle.theory.proofs.Reason.{exceeded-test, reason-is, one-reason, reason-length, reason-within}
 -- frames within the period: the work of ⌈t/T⌉ jobs is less than t + T
 pub use Rattle.theory.proofs.Work.{frame-in-period, period-positive, work-in-periods}
 pub use Rattle.theory.proofs.Demand.{released-less}

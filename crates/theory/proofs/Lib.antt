@@ -1,6 +1,7 @@
 -- The theorems are in Theorems, the laws that other crates cite in Laws, runs played by computation in Examples; the rest stands below these.
 pub mod Search
 pub mod Work
+pub mod Reason
 pub mod Demand
 pub mod Response
 pub mod Places
