@@ -26,9 +26,9 @@
 
 /* The version, stated here and nowhere else. Until 1.0.0 a new minor version may change the entries. */
 #define BURRBEECH_VERSION_MAJOR 0
-#define BURRBEECH_VERSION_MINOR 1
+#define BURRBEECH_VERSION_MINOR 2
 #define BURRBEECH_VERSION_PATCH 0
-#define BURRBEECH_VERSION "0.1.0"
+#define BURRBEECH_VERSION "0.2.0"
 
 /* Limits. */
 #define BURRBEECH_SHEET_MIN 15      /* bytes of the shortest sheet */
@@ -54,7 +54,7 @@ enum burrbeech_refusal_number {
     BURRBEECH_REFUSAL_RECORDS = 8,
     BURRBEECH_REFUSAL_ILL_FORMED = 9,     /* names a task */
     BURRBEECH_REFUSAL_LOCK = 10,          /* names a task */
-    BURRBEECH_REFUSAL_NOT_MONOTONIC = 11, /* names a task */
+    BURRBEECH_REFUSAL_NOT_MONOTONIC = 11, /* names a task, and says why it has no start frame */
     BURRBEECH_REFUSAL_ROOM = 12
 };
 
@@ -106,14 +106,21 @@ extern "C" {
  *
  * Answers 0 if the set holds; 1 to 12 for a refusal, by its number (12: times_len is below 32 * n); 100 + 17 * p + b if
  * task p misses with blocker b (16 for none), p being the first task in priority order that does not pass. The
- * functions burrbeech_check_* take the answer apart. burrbeech_analyse_sheet says more: the task count, and the task
- * that a refusal names. */
+ * functions burrbeech_check_* take the answer apart. burrbeech_analyse_sheet says more: the task count, the task that a
+ * refusal names, and of 11 why. */
 BURRBEECH_ENTRY uint32_t burrbeech_check_sheet(const uint8_t *sheet, size_t sheet_len, uint8_t *times,
                                                size_t times_len);
 
 /* Every entry below answers one number: answer & 0xFF is 0, or the number of the refusal, 1 to 99; answer >> 8 is the
- * detail. The detail of refusals 7, 9, 10 and 11 is the task in bits 0 to 7, that of the others is 0. The detail of
- * success stands with each entry. The functions further down take answers apart, so that no caller has to. */
+ * detail. The detail of refusals 7, 9 and 10 is the task in bits 0 to 7, that of 11 the task in bits 0 to 7 and why it
+ * has no start frame in bits 8 to 31, that of the others is 0; the bits above are 0. The detail of success stands with
+ * each entry. The functions further down take answers apart, so that no caller has to.
+ *
+ * A frame's sum at a length is the sum of so many frames from it on, going round. A start frame has, at each length up
+ * to the number of frames, a sum that is at least that of every other frame; a task without one is not accumulatively
+ * monotonic. Why it has none: in bits 8 to 15 of the detail stands its lowest-numbered largest frame, in bits 16 to 23
+ * the shortest length at which another frame's sum is greater than that frame's, in bits 24 to 31 the lowest-numbered
+ * such other frame. */
 
 /* Reads a sheet of n tasks into the first n records of list.
  * The detail is n in bits 0 to 7 and the policy in bits 8 to 15; the bits above are 0 and kept for later.
@@ -171,6 +178,30 @@ static inline bool burrbeech_refusal_names_task(uint32_t refusal)
 static inline size_t burrbeech_refusal_task(uint64_t answer)
 {
     return burrbeech_refusal_names_task(burrbeech_refusal(answer)) ? (size_t)(burrbeech_detail(answer) & 0xFF) : 0;
+}
+
+/* Of refusal 11 the lowest-numbered largest frame; 0 for every other answer. */
+static inline size_t burrbeech_refusal_frame(uint64_t answer)
+{
+    return burrbeech_refusal(answer) == BURRBEECH_REFUSAL_NOT_MONOTONIC
+               ? (size_t)(burrbeech_detail(answer) >> 8 & 0xFF)
+               : 0;
+}
+
+/* Of refusal 11 the shortest length at which another frame's sum is greater, 2 to 7; 0 for every other answer. */
+static inline size_t burrbeech_refusal_length(uint64_t answer)
+{
+    return burrbeech_refusal(answer) == BURRBEECH_REFUSAL_NOT_MONOTONIC
+               ? (size_t)(burrbeech_detail(answer) >> 16 & 0xFF)
+               : 0;
+}
+
+/* Of refusal 11 the lowest-numbered frame with a greater sum at that length; 0 for every other answer. */
+static inline size_t burrbeech_refusal_other_frame(uint64_t answer)
+{
+    return burrbeech_refusal(answer) == BURRBEECH_REFUSAL_NOT_MONOTONIC
+               ? (size_t)(burrbeech_detail(answer) >> 24 & 0xFF)
+               : 0;
 }
 
 /* What a refusal of this number says, in a few words. */

@@ -1,6 +1,6 @@
 //! What is said of a sheet in every verb: the status, the first line, and the fields that each object starts with.
 use crate::json::Object;
-use crate::library::{Analysis, Refusal, Verdict};
+use crate::library::{Analysis, NoStart, Refusal, Verdict};
 use crate::names::Name;
 use crate::output::Output;
 use crate::status::{Status, Trouble};
@@ -55,7 +55,19 @@ pub fn verdict_object(name: &Name, verdict: Verdict, task_count: usize) -> Objec
 /// The fields that every verb's object of a refused sheet starts with.
 pub fn refusal_object(name: &Name, refusal: Refusal) -> Object {
     let object = Object::new().text("file", &name.plain()).text("verdict", "refused").number("refusal", refusal.number);
-    object.task("task", refusal.task).text("words", words::short(refusal.number))
+    let object = object.task("task", refusal.task);
+    let object = match refusal.no_start {
+        Some(no_start) => object.raw("reason", &reason_object(no_start)),
+        None => object,
+    };
+    object.text("words", words::short(refusal.number))
+}
+
+/// An object of its own: the sheet's length in bytes stands beside it in `show`.
+fn reason_object(no_start: NoStart) -> String {
+    let NoStart { frame, length, other_frame } = no_start;
+    let object = Object::new().number("frame", frame as u64).number("length", length as u64);
+    object.number("other_frame", other_frame as u64).close()
 }
 
 /// The line for a sheet that could not be read.

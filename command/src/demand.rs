@@ -1,5 +1,6 @@
 //! The demand of a frame term by term, for words about it, and its agreement with the library's answers.
 use crate::findings::{Finding, Findings};
+use crate::frames::{start_frame, sum_from, taken};
 use crate::set::Task;
 use crate::status::Trouble;
 
@@ -30,24 +31,13 @@ pub struct Demand {
     pub total: u64,
 }
 
-fn sum_from(frames: &[u32], from: usize, length: usize) -> u64 {
-    frames.iter().cycle().skip(from).take(length).map(|&frame| u64::from(frame)).sum()
-}
-
-/// The lowest-numbered frame whose sums are, at each length, at least those from any other frame.
-pub fn start_frame(frames: &[u32]) -> Option<usize> {
-    let all = 0..frames.len();
-    let beats = |start: usize, other: usize| (1..=frames.len()).all(|n| sum_from(frames, start, n) >= sum_from(frames, other, n));
-    all.clone().find(|&start| all.clone().all(|other| beats(start, other)))
-}
-
 /// The work of so many jobs as ⌈t/T⌉ says, from the start frame on.
 fn jobs(number: usize, task: &Task, t: u32) -> Option<Jobs> {
     let (start_frame, count) = (start_frame(&task.frames)?, t.div_ceil(task.period));
     let frames = task.frames.len();
     let (rounds, left) = (u64::from(count) / frames as u64, count as usize % frames);
     let round = sum_from(&task.frames, 0, frames);
-    let rest: Vec<u32> = task.frames.iter().cycle().skip(start_frame).take(left).copied().collect();
+    let rest = taken(&task.frames, start_frame, left);
     let work = rounds * round + rest.iter().map(|&frame| u64::from(frame)).sum::<u64>();
     Some(Jobs { task: number, period: task.period, count, start_frame, frames, rounds, round, rest, work })
 }

@@ -12,7 +12,7 @@ use crate::show_json::task_object;
 use crate::status::Trouble;
 
 pub fn refused(name: &Name, refusal: Refusal, fault: &Fault) -> String {
-    let object = refusal_object(name, refusal).text("fault", &fault.words).text("advice", fault.advice);
+    let object = refusal_object(name, refusal).text("fault", &fault.words).text("advice", &fault.advice);
     object.close() + "\n"
 }
 

@@ -1,11 +1,12 @@
 //! What is wrong with a refused sheet or list, in words: one function for each refusal. Each answers nothing where it sees no fault, and
 //! the command then says that it disagrees with the library instead of making up a reason.
-use crate::demand::start_frame;
-use crate::library::Refusal;
+use crate::frames::{no_start, sum_from, taken};
+use crate::library::{NoStart, Refusal};
 use crate::set::{policy_name, Task, GREATEST_SHEET, LEAST_SHEET, MOST_FRAMES, MOST_TASKS, MOST_TICKS, POLICIES};
 use crate::sheet_bits::{self, End, SheetBits, FIXED_BITS, VERSION};
 use crate::status::Trouble;
-use crate::words::{counted, joined};
+use crate::words::{counted, in_words, joined};
+use std::borrow::Cow;
 
 /// The part of a sheet that has the fault.
 #[derive(Clone, Copy, Debug, PartialEq, Eq)]
@@ -26,11 +27,11 @@ pub struct Fault {
     /// Field, value and limit.
     pub words: String,
     /// What to do about it, where that helps.
-    pub advice: &'static str,
+    pub advice: Cow<'static, str>,
 }
 
-fn fault_if(seen: bool, part: Part, words: String, advice: &'static str) -> Option<Fault> {
-    seen.then_some(Fault { part, words, advice })
+fn fault_if(seen: bool, part: Part, words: String, advice: impl Into<Cow<'static, str>>) -> Option<Fault> {
+    seen.then(|| Fault { part, words, advice: advice.into() })
 }
 
 /// The fault of a refused sheet.
@@ -44,17 +45,17 @@ pub fn of_sheet(refusal: Refusal, sheet: &[u8]) -> Result<Fault, Trouble> {
         (5, Some(bits)) => spare(bits).or_else(|| fill(bits)),
         (6, Some(bits)) => task_count(bits.task_count as usize),
         (8, Some(bits)) => records(bits),
-        (_, Some(bits)) => refusal.task.and_then(|task| of_record(refusal.number, task, bits)),
+        (_, Some(bits)) => refusal.task.and_then(|task| of_record(refusal, task, bits)),
         (_, None) => None,
     };
     found.ok_or_else(|| unseen(refusal))
 }
 
-fn of_record(number: u32, task: usize, bits: &SheetBits) -> Option<Fault> {
+fn of_record(refusal: Refusal, task: usize, bits: &SheetBits) -> Option<Fault> {
     let record = bits.records.get(task)?;
-    match number {
+    match refusal.number {
         7 => frame_count(task, record.frame_count as usize),
-        _ => of_task(number, task, &record.task),
+        _ => of_task(refusal, task, &record.task),
     }
 }
 
@@ -65,17 +66,17 @@ pub fn of_list(refusal: Refusal, policy_number: u32, tasks: &[Task]) -> Result<F
         (4, _) => policy(policy_number),
         (6, _) => task_count(tasks.len()),
         (7, Some((number, task))) => frame_count(number, task.frames.len()),
-        (refused, Some((number, task))) => of_task(refused, number, task),
+        (_, Some((number, task))) => of_task(refusal, number, task),
         (_, None) => None,
     };
     found.ok_or_else(|| unseen(refusal))
 }
 
-fn of_task(refusal: u32, number: usize, task: &Task) -> Option<Fault> {
-    match refusal {
+fn of_task(refusal: Refusal, number: usize, task: &Task) -> Option<Fault> {
+    match refusal.number {
         9 => form(number, task),
         10 => lock(number, task),
-        11 => monotony(number, task),
+        11 => monotony(number, task, refusal.no_start?),
         _ => None,
     }
 }
@@ -203,12 +204,39 @@ fn lock(number: usize, task: &Task) -> Option<Fault> {
     fault_if(task.lock > largest, Part::Task(number), words, "A job cannot lock for longer than it works.")
 }
 
-/// 11.
-fn monotony(number: usize, task: &Task) -> Option<Fault> {
-    let words = format!("frames {} are not accumulatively monotonic: no frame can be the start frame", joined(&task.frames, " "));
-    let rule = "For each length from 1 to the number of frames, that many frames from the start frame on, going round, must add up to at least as \
-                much as the same number of frames from any other frame. Frames that fall from the largest on always do.";
-    fault_if(start_frame(&task.frames).is_none(), Part::Task(number), words, rule)
+/// 11, where the frames have no start frame for the very reason that the library names.
+fn monotony(number: usize, task: &Task, named: NoStart) -> Option<Fault> {
+    let seen = no_start(task).filter(|&seen| seen == named)?;
+    fault_if(true, Part::Task(number), no_start_words(&task.frames, seen), no_start_advice(&task.frames, seen))
+}
+
+/// The largest frame and the two sums, term by term.
+fn no_start_words(frames: &[u32], no_start: NoStart) -> String {
+    let NoStart { frame, length, other_frame } = no_start;
+    let largest = frames[frame];
+    let is_alone = frames.iter().filter(|&&time| time == largest).count() == 1;
+    let which = if is_alone { "the largest is" } else { "the first of the largest is" };
+    let sum = |from| format!("{} = {}", joined(&taken(frames, from, length), " + "), sum_from(frames, from, length));
+    let (count, ticks) = (in_words(length), counted(largest.into(), "tick"));
+    format!(
+        "frames {} have no start frame: {which} frame {frame} ({ticks}); {count} frames from it on, going round, make {}, {count} from frame \
+         {other_frame} on make {}",
+        joined(frames, " "),
+        sum(frame),
+        sum(other_frame)
+    )
+}
+
+/// What the smaller sum lacks can be given to its last frame, which the greater has not, and which comes to no more than the largest.
+fn no_start_advice(frames: &[u32], no_start: NoStart) -> String {
+    let NoStart { frame, length, other_frame } = no_start;
+    let last = (frame + length - 1) % frames.len();
+    let (missing, time) = (sum_from(frames, other_frame, length) - sum_from(frames, frame, length), u64::from(frames[last]));
+    format!(
+        "Change the order of the frames, or raise frame {last} from {time} to {} and ask again. A list that never rises in a round from one of its \
+         largest frames on has a start frame. Frames count from 0; docs/SHEET.md shows how a list is mended.",
+        time + missing
+    )
 }
 
 #[cfg(test)]
@@ -223,10 +251,77 @@ mod tests {
         let sheet = library::write(0, std::slice::from_ref(&task)).expect("an answer").expect("a sheet");
         for number in 1..=12 {
             for task_number in [None, Some(0), Some(1)] {
-                let refusal = Refusal { number, task: task_number };
-                assert!(matches!(of_sheet(refusal, &sheet), Err(Trouble::Disagreement(_))), "{refusal:?}");
-                assert!(matches!(of_list(refusal, 0, std::slice::from_ref(&task)), Err(Trouble::Disagreement(_))), "{refusal:?}");
+                for no_start in [None, Some(NoStart { frame: 0, length: 2, other_frame: 1 })] {
+                    let refusal = Refusal { number, task: task_number, no_start };
+                    assert!(matches!(of_sheet(refusal, &sheet), Err(Trouble::Disagreement(_))), "{refusal:?}");
+                    assert!(matches!(of_list(refusal, 0, std::slice::from_ref(&task)), Err(Trouble::Disagreement(_))), "{refusal:?}");
+                }
             }
         }
+    }
+
+    fn task(frames: &[u32]) -> Task {
+        Task { period: 10, deadline: 10, lock: 0, frames: frames.to_vec() }
+    }
+
+    /// The words where the library refuses these frames for this reason; none where the command does not agree.
+    fn words_of(frames: &[u32], frame: usize, length: usize, other_frame: usize) -> Option<String> {
+        let refusal = Refusal { number: 11, task: Some(0), no_start: Some(NoStart { frame, length, other_frame }) };
+        match of_list(refusal, 0, &[task(frames)]) {
+            Ok(fault) => Some(fault.words),
+            Err(Trouble::Disagreement(_)) => None,
+            Err(trouble) => panic!("{trouble:?}"),
+        }
+    }
+
+    /// Of every reason that an answer can name, the one that the frames give is said, and no other.
+    #[test]
+    fn another_reason_is_a_disagreement() {
+        for (frames, seen) in [([1, 2, 3].as_slice(), (2, 2, 1)), (&[9, 1, 8, 8], (0, 2, 2)), (&[2, 1, 2, 3, 2, 2, 3, 2], (3, 7, 2))] {
+            let all = (0..8).flat_map(|frame| (2..8).flat_map(move |length| (0..8).map(move |other| (frame, length, other))));
+            let said: Vec<_> = all.filter(|&(frame, length, other)| words_of(frames, frame, length, other).is_some()).collect();
+            assert_eq!(said, [seen], "{frames:?}");
+        }
+    }
+
+    /// The same of a sheet: case I, whose frames are 1, 2 and 3.
+    #[test]
+    fn another_reason_of_a_sheet_is_a_disagreement() {
+        let fault = |frame, length, other_frame| {
+            let refusal = Refusal { number: 11, task: Some(0), no_start: Some(NoStart { frame, length, other_frame }) };
+            of_sheet(refusal, include_bytes!("../../sheets/i.sheet"))
+        };
+        assert_eq!(fault(2, 2, 1).expect("a fault").words, words_of(&[1, 2, 3], 2, 2, 1).expect("words"));
+        for (frame, length, other_frame) in [(1, 2, 2), (0, 2, 1), (2, 3, 1), (2, 2, 0), (2, 2, 3), (7, 2, 1)] {
+            let fault = fault(frame, length, other_frame);
+            assert!(matches!(fault, Err(Trouble::Disagreement(_))), "{frame} {length} {other_frame}");
+        }
+    }
+
+    /// Frames with a start frame are not said to have none, though another than the first largest qualifies (case K).
+    #[test]
+    fn no_reason_is_said_of_case_k() {
+        assert_eq!(words_of(&[3, 1, 3, 2], 0, 2, 2), None);
+    }
+
+    #[test]
+    fn no_fault_without_a_reason() {
+        let refusal = Refusal { number: 11, task: Some(0), no_start: None };
+        assert!(matches!(of_list(refusal, 0, &[task(&[1, 2, 3])]), Err(Trouble::Disagreement(_))));
+    }
+
+    #[test]
+    fn frames_without_a_start_in_words() {
+        let words = |frames: &[u32], frame, length, other_frame| words_of(frames, frame, length, other_frame).expect("words");
+        assert_eq!(
+            words(&[1, 2, 3], 2, 2, 1),
+            "frames 1 2 3 have no start frame: the largest is frame 2 (3 ticks); two frames from it on, going round, make 3 + 1 = 4, two from \
+             frame 1 on make 2 + 3 = 5"
+        );
+        assert_eq!(
+            words(&[5, 1, 5, 1, 3], 0, 2, 4),
+            "frames 5 1 5 1 3 have no start frame: the first of the largest is frame 0 (5 ticks); two frames from it on, going round, make \
+             5 + 1 = 6, two from frame 4 on make 3 + 5 = 8"
+        );
     }
 }

@@ -173,7 +173,7 @@ mod tests {
 
     #[test]
     fn the_report_on_a_refused_sheet_is_its_refusal_alone() {
-        let refused = Err(Refusal { number: 1, task: None });
+        let refused = Err(Refusal { number: 1, task: None, no_start: None });
         assert!(says(b"refused 1\n", &refused));
         for report in ["", "refused 1", "refused 2\n", "refused 11\n", "refused 1\n0 10 4 2 4\n", case_f().2] {
             assert!(!says(report.as_bytes(), &refused), "{report:?}");

@@ -102,6 +102,8 @@ A name with a space, a double quote, a backslash or a character that does not pr
   {\"file\":NAME,\"verdict\":\"missed\",\"tasks\":COUNT,\"task\":TASK,\"blocker\":TASK or null}
   {\"file\":NAME,\"verdict\":\"refused\",\"refusal\":NUMBER,\"task\":TASK or null,\"words\":TEXT}
   {\"file\":NAME,\"verdict\":null,\"error\":TEXT}        (not read, with explain and show too; standard error has the message as well)
+  refusal 11 has also \"reason\":{\"frame\":FRAME (the lowest-numbered largest),\"length\":COUNT (the shortest at which so many frames from
+    another frame on, going round, make more),\"other_frame\":FRAME (the lowest-numbered such)}
 
 Exit status: 0 all hold, 1 some missed, 2 some refused, 3 some not read, or usage; the worst decides.
 ";
@@ -116,7 +118,8 @@ Exit status: 0 holds, 1 missed, 2 refused, 3 not read, or usage.
 
 const EXPLAIN: &str = "Of a set that holds: each task in priority order with its blocking and who causes it, and for each frame its work, response time
 and slack (deadline less response time). Of a set that misses also the demand, at the deadline, of the missed task's largest frame,
-term by term. Of a refused sheet: the field, its value and the limit.
+term by term. Of a refused sheet: the field, its value and the limit; where no frame can be the start frame (refusal 11), the largest
+frame, and the shortest length at which so many frames from another frame on, going round, make more, with both sums.
 
   --json  prints one object, that of `check --json` with more fields:
   holds and missed: \"policy\":NUMBER, \"policy_name\":TEXT, \"order\":[TASK...] (highest priority first), \"list\":[...] with, for each task,
@@ -160,6 +163,7 @@ Exit status: 0 written, 2 the set is refused, 3 the text is no table, not read o
 ";
 
 const REFUSALS: &str =
-    "Prints a line for each number. Of several reasons the first decides: 1, 2, 3, 4, 5 for the header, 6; then task by task 7 and 8;
+    "Prints a line for each number. Of several faults the first decides: 1, 2, 3, 4, 5 for the header, 6; then task by task 7 and 8;
 then 8 and 5 for what follows the records; then task by task 9, 10, 11. 12 is said to C programs only.
+`explain` says what is wrong in a sheet.
 ";

@@ -36,6 +36,17 @@ pub struct Refusal {
     pub number: u32,
     /// The task that 7, 9, 10 and 11 name.
     pub task: Option<usize>,
+    /// Why that task has no start frame, which 11 says.
+    pub no_start: Option<NoStart>,
+}
+
+/// At this length, the shortest such, another frame's sum is greater than that of the lowest-numbered largest frame.
+#[derive(Clone, Copy, Debug, PartialEq, Eq)]
+pub struct NoStart {
+    pub frame: usize,
+    pub length: usize,
+    /// The lowest-numbered frame with a greater sum.
+    pub other_frame: usize,
 }
 
 #[derive(Clone, Copy, Debug, PartialEq, Eq)]
@@ -161,12 +172,26 @@ pub fn report(sheet: &[u8]) -> Result<Vec<u8>, Trouble> {
 /// The refusal, or what the detail of a success stands for. 12 cannot be: all the room that there can be need of is lent.
 fn decoded<T>(answer: u64, success: impl FnOnce(u64) -> Option<T>) -> Answer<T> {
     let (number, detail) = ((answer & 0xFF) as u32, answer >> 8);
+    let refused = |task, no_start| Ok(Err(Refusal { number, task, no_start }));
     match number {
         0 => success(detail).map(Ok).ok_or_else(|| odd(answer)),
-        7 | 9 | 10 | 11 if detail < MOST_TASKS as u64 => Ok(Err(Refusal { number, task: Some(detail as usize) })),
-        1..=6 | 8 if detail == 0 => Ok(Err(Refusal { number, task: None })),
+        7 | 9 | 10 if detail < MOST_TASKS as u64 => refused(Some(detail as usize), None),
+        11 => {
+            let (task, no_start) = no_start_of(detail).ok_or_else(|| odd(answer))?;
+            refused(Some(task), Some(no_start))
+        }
+        1..=6 | 8 if detail == 0 => refused(None, None),
         _ => Err(odd(answer)),
     }
+}
+
+/// The task, the largest frame, the length and the other frame, eight bits each. At length 1 no sum is above the largest frame, and at
+/// the number of frames all sums are the same.
+fn no_start_of(detail: u64) -> Option<(usize, NoStart)> {
+    let [task, frame, length, other_frame] = u32::try_from(detail).ok()?.to_le_bytes().map(usize::from);
+    let two_frames = frame < MOST_FRAMES && other_frame < MOST_FRAMES && frame != other_frame;
+    let known = task < MOST_TASKS && two_frames && (2..MOST_FRAMES).contains(&length);
+    known.then_some((task, NoStart { frame, length, other_frame }))
 }
 
 fn odd(answer: u64) -> Trouble {
@@ -190,10 +215,60 @@ mod tests {
         assert_eq!(verdict_of(0, 17), None);
         assert_eq!(verdict_of(1 + 17 * 2, 2), None);
         assert_eq!(verdict_of(1 + 2, 2), None);
-        for answer in [12, 13, 99, 255, 1 << 8 | 1, 16 << 8 | 7] {
-            assert!(decoded(answer, |_| Some(())).is_err(), "{answer}");
+        for answer in [12, 13, 99, 255, 1 << 8 | 1, 16 << 8 | 7, 16 << 8 | 9, 1 << 16 | 10] {
+            assert!(is_odd(answer), "{answer}");
         }
     }
+
+    fn is_odd(answer: u64) -> bool {
+        matches!(decoded(answer, |_| Some(())), Err(Trouble::Disagreement(_)))
+    }
+
+    /// The answer that refuses a task's frames.
+    fn no_start(task: u64, frame: u64, length: u64, other_frame: u64) -> u64 {
+        11 | task << 8 | frame << 16 | length << 24 | other_frame << 32
+    }
+
+    #[test]
+    fn refusals_decode() {
+        let refusal = |answer| decoded(answer, |_| Some(())).expect("an answer").expect_err("a refusal");
+        for number in [1, 2, 3, 4, 5, 6, 8] {
+            assert_eq!(refusal(number.into()), Refusal { number, task: None, no_start: None });
+        }
+        for (number, task) in [7, 9, 10].into_iter().flat_map(|number| (0..16).map(move |task| (number, task))) {
+            let expected = Refusal { number, task: Some(task), no_start: None };
+            assert_eq!(refusal(u64::from(number) | (task as u64) << 8), expected);
+        }
+        let why = |frame, length, other_frame| Some(NoStart { frame, length, other_frame });
+        let expected = |task, no_start| Refusal { number: 11, task: Some(task), no_start };
+        assert_eq!(refusal(no_start(0, 2, 2, 1)), expected(0, why(2, 2, 1)));
+        assert_eq!(refusal(no_start(15, 0, 7, 7)), expected(15, why(0, 7, 7)));
+        assert_eq!(refusal(no_start(9, 7, 3, 0)), expected(9, why(7, 3, 0)));
+    }
+
+    /// A reason for 11 must name a task, two of its frames and a length at which their sums can differ, and nothing above.
+    #[test]
+    fn reasons_that_cannot_be_are_trouble() {
+        assert!(!is_odd(no_start(3, 2, 4, 1)));
+        for task in [16, 255] {
+            assert!(is_odd(no_start(task, 2, 4, 1)), "task {task}");
+        }
+        for frame in [1, 8, 255] {
+            assert!(is_odd(no_start(3, frame, 4, 1)), "frame {frame}");
+        }
+        for length in [0, 1, 8, 255] {
+            assert!(is_odd(no_start(3, 2, length, 1)), "length {length}");
+        }
+        for other_frame in [2, 8, 255] {
+            assert!(is_odd(no_start(3, 2, 4, other_frame)), "other frame {other_frame}");
+        }
+        for bit in 40..64 {
+            assert!(is_odd(no_start(3, 2, 4, 1) | 1 << bit), "bit {bit}");
+        }
+        // the task alone is no reason
+        assert!((0..16).all(|task| is_odd(no_start(task, 0, 0, 0))));
+    }
+
     #[test]
     fn both_entries_say_the_same() {
         let analysis = |verdict| Ok(Analysis { task_count: 1, verdict, times: vec![[0x0102_0304, 5, 0, 0, 0, 0, 0, 0]] });
@@ -202,7 +277,7 @@ mod tests {
         assert!(is_checked(&analysis(Verdict::Holds), 0, &bytes));
         assert!(is_checked(&analysis(Verdict::Missed { task: 3, blocker: Some(2) }), 100 + 17 * 3 + 2, &bytes));
         assert!(is_checked(&analysis(Verdict::Missed { task: 15, blocker: None }), 100 + 17 * 15 + 16, &bytes));
-        assert!(is_checked(&Err(Refusal { number: 7, task: Some(3) }), 7, &[0; 512]));
+        assert!(is_checked(&Err(Refusal { number: 7, task: Some(3), no_start: None }), 7, &[0; 512]));
     }
 
     #[test]
@@ -218,7 +293,7 @@ mod tests {
             assert!(!is_checked(&missed, number, &[0; 512]), "{number}");
         }
         for number in [0, 5, 7, 106] {
-            assert!(!is_checked(&Err(Refusal { number: 6, task: None }), number, &[0; 512]), "{number}");
+            assert!(!is_checked(&Err(Refusal { number: 6, task: None, no_start: None }), number, &[0; 512]), "{number}");
         }
         for slot in 0..32 {
             let mut other = bytes;

@@ -10,6 +10,7 @@ mod explain;
 mod explain_json;
 mod faults;
 mod findings;
+mod frames;
 mod help;
 mod input;
 mod json;

@@ -20,7 +20,7 @@ pub fn admitted(name: &Name, set: &Set) -> String {
 }
 
 pub fn refused(name: &Name, refusal: Refusal, fault: &Fault, sheet: &[u8]) -> String {
-    let object = refusal_object(name, refusal).text("fault", &fault.words).text("advice", fault.advice).truth("admitted", false);
+    let object = refusal_object(name, refusal).text("fault", &fault.words).text("advice", &fault.advice).truth("admitted", false);
     let object = match sheet_bits::read(sheet) {
         Some(bits) => fields(object.number("length", sheet.len() as u64), &bits),
         None => object,

@@ -66,6 +66,18 @@ pub fn counted(count: u64, thing: &str) -> String {
     }
 }
 
+/// A length at which sums of frames can differ, 2 to 7, as a word.
+pub fn in_words(length: usize) -> &'static str {
+    match length {
+        2 => "two",
+        3 => "three",
+        4 => "four",
+        5 => "five",
+        6 => "six",
+        _ => "seven",
+    }
+}
+
 /// Numbers with one string between them.
 pub fn joined(numbers: &[u32], between: &str) -> String {
     numbers.iter().map(u32::to_string).collect::<Vec<_>>().join(between)

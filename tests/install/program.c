@@ -40,11 +40,22 @@ static void print_check(const struct sheet *sheet)
     }
 }
 
+/* The number, the task and, of 11, why. */
+static void print_refusal(uint64_t answer)
+{
+    printf("refused %u, task %zu", (unsigned)burrbeech_refusal(answer), burrbeech_refusal_task(answer));
+    if (burrbeech_refusal_length(answer) != 0) {
+        printf(", frame %zu, length %zu, other frame %zu", burrbeech_refusal_frame(answer),
+               burrbeech_refusal_length(answer), burrbeech_refusal_other_frame(answer));
+    }
+    printf("\n");
+}
+
 static void print_analysis(const char *name, const char *what, uint64_t answer, const uint32_t *times)
 {
     printf("%s %s: ", name, what);
     if (burrbeech_refusal(answer) != 0) {
-        printf("refused %u, task %zu\n", (unsigned)burrbeech_refusal(answer), burrbeech_refusal_task(answer));
+        print_refusal(answer);
         return;
     }
     if (burrbeech_analysed_missed(answer)) {

@@ -30,11 +30,21 @@ static void print_check(const std::string &name, const Bytes &sheet)
     }
 }
 
+static void print_refusal(uint64_t answer)
+{
+    std::cout << "refused " << burrbeech_refusal(answer) << ", task " << burrbeech_refusal_task(answer);
+    if (burrbeech_refusal_length(answer) != 0) {
+        std::cout << ", frame " << burrbeech_refusal_frame(answer) << ", length " << burrbeech_refusal_length(answer)
+                  << ", other frame " << burrbeech_refusal_other_frame(answer);
+    }
+    std::cout << "\n";
+}
+
 static void print_analysis(const std::string &name, uint64_t answer, const std::vector<uint32_t> &times)
 {
     std::cout << name << ": ";
     if (burrbeech_refusal(answer) != 0) {
-        std::cout << "refused " << burrbeech_refusal(answer) << ", task " << burrbeech_refusal_task(answer) << "\n";
+        print_refusal(answer);
         return;
     }
     if (burrbeech_analysed_missed(answer)) {

@@ -50,7 +50,9 @@ def print_check(name, sheet):
 def print_analysis(name, answer, times):
     refusal, detail = opened(answer)
     if refusal:
-        print(f"{name}: refused {refusal}, task {detail & 0xFF}")
+        task, frame, length, other = detail.to_bytes(4, "little")
+        why = f", frame {frame}, length {length}, other frame {other}" if refusal == 11 else ""
+        print(f"{name}: refused {refusal}, task {task}{why}")
         return
     outcome, tasks = detail & 0xFFFF, detail >> 16 & 0xFF
     verdict = f"missed {(outcome - 1) // 17} {(outcome - 1) % 17}" if outcome else "holds"

@@ -6,9 +6,9 @@ static uint64_t success(uint64_t detail)
     return detail << 8;
 }
 
-static uint64_t refused(uint32_t number, uint64_t task)
+static uint64_t refused(uint32_t number, uint64_t detail)
 {
-    return number | task << 8;
+    return number | detail << 8;
 }
 
 /* A refusal is no success of any entry: nothing was read, written or analysed. */
@@ -33,6 +33,31 @@ static bool refusals(void)
                 !says_nothing_else(answer)) {
                 return false;
             }
+        }
+    }
+    return true;
+}
+
+/* 11 of every task, with every frame, length and other frame below 8. */
+static bool reasons(void)
+{
+    for (uint64_t n = 0; n < BURRBEECH_TASKS_MAX * 8 * 8 * 8; n++) {
+        size_t task = n / 512, frame = n / 64 % 8, length = n / 8 % 8, other = n % 8;
+        uint64_t answer = refused(11, task | frame << 8 | length << 16 | other << 24);
+        if (burrbeech_refusal(answer) != 11 || burrbeech_refusal_task(answer) != task ||
+            !reason(answer, frame, length, other) || !says_nothing_else(answer)) {
+            return false;
+        }
+    }
+    return true;
+}
+
+/* No other answer has a reason, whatever its detail. */
+static bool no_other_reason(void)
+{
+    for (uint32_t number = 0; number <= 99; number++) {
+        if (number != 11 && !reason(refused(number, UINT64_MAX >> 8), 0, 0, 0)) {
+            return false;
         }
     }
     return true;
@@ -158,6 +183,8 @@ static bool walks_end(void)
 int main(void)
 {
     expect("refusals, with the task where they name one", refusals());
+    expect("the parts of every reason of 11", reasons());
+    expect("no other answer has them", no_other_reason());
     expect("lists read", lists_read());
     expect("bytes written and lengths of reports", lengths());
     expect("misses of every task with every blocker", misses());

@@ -42,6 +42,28 @@ struct sheet {
     size_t len;
 };
 
+/* Case F and a task 2 with frames 2, 1, 1, 2, 1, 3, which have no start: going round, four frames from frame 5, the
+ * largest, take 7 ticks, and four from frame 3 take 8. */
+static const struct sheet no_start = {{0x10, 0x60, 0x00, 0x00, 0xA0, 0x00, 0x04, 0x00, 0x00, 0x01, 0x00, 0x00,
+                                       0x20, 0x00, 0x14, 0x00, 0x01, 0x40, 0x00, 0x03, 0x10, 0x00, 0x05, 0x00,
+                                       0x01, 0x40, 0x00, 0x14, 0x00, 0x00, 0x06, 0x00, 0x00, 0x20, 0x00, 0x01,
+                                       0x00, 0x00, 0x10, 0x00, 0x02, 0x00, 0x00, 0x10, 0x00, 0x03, 0xE0, 0xDF},
+                                      48};
+
+/* What an answer says of the reason of 11; every other answer says 0. */
+static inline bool reason(uint64_t answer, size_t frame, size_t length, size_t other)
+{
+    return burrbeech_refusal_frame(answer) == frame && burrbeech_refusal_length(answer) == length &&
+           burrbeech_refusal_other_frame(answer) == other;
+}
+
+/* Whether the answer is 11 of this task for this reason, and nothing more. */
+static inline bool has_no_start(uint64_t answer, size_t task, size_t frame, size_t length, size_t other)
+{
+    return burrbeech_refusal(answer) == BURRBEECH_REFUSAL_NOT_MONOTONIC && burrbeech_refusal_task(answer) == task &&
+           reason(answer, frame, length, other) && burrbeech_detail(answer) >> 32 == 0;
+}
+
 /* A case sheet from the folder of them; the program ends where it cannot be read. */
 static inline struct sheet case_sheet(const char *folder, const char *name)
 {

@@ -16,9 +16,11 @@ static bool same_record(const struct burrbeech_task *task, uint32_t period, uint
     return memcmp(task, &expected, sizeof expected) == 0;
 }
 
+/* Whether the answer is this refusal of this task, and nothing more. */
 static bool refused(uint64_t answer, uint32_t number, size_t task)
 {
-    return burrbeech_refusal(answer) == number && burrbeech_refusal_task(answer) == task;
+    return burrbeech_refusal(answer) == number && burrbeech_refusal_task(answer) == task && reason(answer, 0, 0, 0) &&
+           burrbeech_detail(answer) == task;
 }
 
 static uint64_t analyse(uint32_t policy, size_t tasks, size_t room)
@@ -43,8 +45,10 @@ static void try_read(const struct sheet *f, const struct sheet *i)
            burrbeech_read_list(f->bytes, f->len, NULL, 0) == BURRBEECH_REFUSAL_ROOM);
     expect("read: no sheet (NULL, 0) is refused with 1",
            burrbeech_read_list(NULL, 0, list, ROOM) == BURRBEECH_REFUSAL_LENGTH && untouched(list, sizeof list));
-    expect("read: I is refused with 11, task 0",
-           refused(burrbeech_read_list(i->bytes, i->len, list, ROOM), BURRBEECH_REFUSAL_NOT_MONOTONIC, 0) &&
+    expect("read: I is refused with 11, task 0: frame 2, length 2, other frame 1",
+           has_no_start(burrbeech_read_list(i->bytes, i->len, list, ROOM), 0, 2, 2, 1) && untouched(list, sizeof list));
+    expect("read: frames 2, 1, 1, 2, 1, 3 with 11, task 2: frame 5, length 4, other frame 3",
+           has_no_start(burrbeech_read_list(no_start.bytes, no_start.len, list, ROOM), 2, 5, 4, 3) &&
                untouched(list, sizeof list));
     uint64_t answer = burrbeech_read_list(f->bytes, f->len, list, ROOM);
     expect("read: F, two tasks, listed", burrbeech_refusal(answer) == 0 && burrbeech_read_tasks(answer) == 2 &&
@@ -93,13 +97,23 @@ static void try_write(const struct sheet *f)
            burrbeech_write_list(0, NULL, 0, back, sizeof back) == BURRBEECH_REFUSAL_TASK_COUNT);
 }
 
-/* Each refusal that names a task, of task 1; the analysis and the writer refuse alike and change nothing. */
+/* Each other refusal that names a task, of task 1; the analysis and the writer refuse alike and change nothing. */
 static void try_task(const char *what, struct burrbeech_task changed, uint32_t number)
 {
     list[1] = changed;
     expect(what, refused(analyse(BURRBEECH_POLICY_LISTED, 2, BURRBEECH_TIMES_MAX), number, 1) &&
                      untouched(times, sizeof times) &&
                      refused(write_back(BURRBEECH_POLICY_LISTED, 2, sizeof back), number, 1) &&
+                     untouched(back, sizeof back));
+}
+
+/* Frames without a start, of task 1; the analysis and the writer give the same reason and change nothing. */
+static void try_frames(const char *what, struct burrbeech_task changed, size_t frame, size_t length, size_t other)
+{
+    list[1] = changed;
+    expect(what, has_no_start(analyse(BURRBEECH_POLICY_LISTED, 2, BURRBEECH_TIMES_MAX), 1, frame, length, other) &&
+                     untouched(times, sizeof times) &&
+                     has_no_start(write_back(BURRBEECH_POLICY_LISTED, 2, sizeof back), 1, frame, length, other) &&
                      untouched(back, sizeof back));
 }
 
@@ -121,7 +135,9 @@ int main(int argc, char **argv)
              BURRBEECH_REFUSAL_ILL_FORMED);
     try_task("a lock above the largest frame is refused with 10, task 1", (struct burrbeech_task){20, 20, 6, 1, {5}},
              BURRBEECH_REFUSAL_LOCK);
-    try_task("frames 1, 2, 3 are refused with 11, task 1", (struct burrbeech_task){20, 20, 0, 3, {1, 2, 3}},
-             BURRBEECH_REFUSAL_NOT_MONOTONIC);
+    try_frames("frames 1, 2, 3 are refused with 11, task 1: frame 2, length 2, other frame 1",
+               (struct burrbeech_task){20, 20, 0, 3, {1, 2, 3}}, 2, 2, 1);
+    try_frames("frames 2, 1, 1, 2, 1, 3 with 11, task 1: frame 5, length 4, other frame 3",
+               (struct burrbeech_task){20, 20, 0, 6, {2, 1, 1, 2, 1, 3}}, 5, 4, 3);
     return finished();
 }

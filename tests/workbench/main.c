@@ -30,6 +30,10 @@ static void print_refusal(uint64_t answer)
     if (burrbeech_refusal_names_task(refusal)) {
         printf(", task %zu", burrbeech_refusal_task(answer));
     }
+    if (burrbeech_refusal_length(answer) != 0) {
+        printf(": %zu frames from frame %zu on make more than from its largest, frame %zu", burrbeech_refusal_length(answer),
+               burrbeech_refusal_other_frame(answer), burrbeech_refusal_frame(answer));
+    }
     printf("\n");
 }
 

@@ -81,6 +81,8 @@ static void try_check(const struct sheet *f, const struct sheet *g, const struct
            burrbeech_check_sheet(f->bytes, f->len, NULL, 0) == BURRBEECH_REFUSAL_ROOM);
     expect("check: nothing at all is refused with 1",
            burrbeech_check_sheet(NULL, 0, NULL, 0) == BURRBEECH_REFUSAL_LENGTH);
+    expect("check: frames without a start are refused with 11 alone",
+           check(&no_start, sizeof bytes) == BURRBEECH_REFUSAL_NOT_MONOTONIC && untouched(bytes, sizeof bytes));
     expect("check: 453 bytes are refused with 1",
            burrbeech_check_sheet(f->bytes, sizeof f->bytes, bytes, sizeof bytes) == BURRBEECH_REFUSAL_LENGTH);
 }
@@ -107,9 +109,12 @@ static void try_analyse(const struct sheet *f, const struct sheet *g, const stru
 static void try_refused(const struct sheet *f, const struct sheet *i)
 {
     uint64_t answer = analyse(i, BURRBEECH_TIMES_MAX);
-    expect("analyse: I is refused with 11, task 0", burrbeech_refusal(answer) == BURRBEECH_REFUSAL_NOT_MONOTONIC &&
-                                                        burrbeech_refusal_task(answer) == 0 &&
-                                                        untouched(numbers, sizeof numbers));
+    expect("analyse: I is refused with 11, task 0: frame 2, length 2, other frame 1",
+           has_no_start(answer, 0, 2, 2, 1) && untouched(numbers, sizeof numbers));
+    expect("analyse: as one number", answer == UINT64_C(0x010202000B));
+    expect("analyse: frames 2, 1, 1, 2, 1, 3 with 11, task 2: frame 5, length 4, other frame 3",
+           has_no_start(analyse(&no_start, BURRBEECH_TIMES_MAX), 2, 5, 4, 3) && untouched(numbers, sizeof numbers));
+    expect("analyse: 11 comes before the room", has_no_start(analyse(&no_start, 0), 2, 5, 4, 3));
     answer = burrbeech_analyse_sheet(late, sizeof late, numbers, BURRBEECH_TIMES_MAX);
     expect("analyse: a deadline past the period is refused with 9, task 1",
            burrbeech_refusal(answer) == BURRBEECH_REFUSAL_ILL_FORMED && burrbeech_refusal_task(answer) == 1 &&
@@ -133,6 +138,8 @@ static void try_report(const struct sheet *f, const struct sheet *g, const struc
            burrbeech_report(f->bytes, f->len, NULL, 0) == BURRBEECH_REFUSAL_ROOM);
     expect("report: G", reported(report(g, sizeof text), "missed 2 0 1\n0 10 4 3 missed\n1 20 20 0 7\n"));
     expect("report: I is refused, and has a report", reported(report(i, sizeof text), "refused 11\n"));
+    expect("report: of frames without a start 11 alone",
+           reported(report(&no_start, sizeof text), "refused 11\n"));
     expect("report: of no sheet",
            (memset(text, BEFORE, sizeof text), reported(burrbeech_report(NULL, 0, text, sizeof text), "refused 1\n")));
 }

@@ -46,6 +46,7 @@ fn each_verb_gives_the_refusal() {
         let (bytes, refusal) = &damaged[i];
         assert_eq!(object.get("refusal").number(), u64::from(refusal.number()), "{bytes:02x?}");
         assert_eq!(object.get("task"), &number_or_null(named_task(*refusal)));
+        assert_eq!(object.find("reason").is_some(), refusal.number() == 11, "{bytes:02x?}");
         one_is_refused(&words[i + 2], *refusal);
     }
 }

@@ -6,6 +6,7 @@ mod explain;
 mod faults;
 mod json;
 mod manual;
+mod monotony;
 mod running;
 mod shipped;
 mod speed;

@@ -153,7 +153,7 @@ policy listed
 # task count 1
 # spare bits 00000
 task  period  deadline  lock  frames
-0         10        10     0  1 2 3   # <== frames 1 2 3 are not accumulatively monotonic: no frame can be the start frame
+0         10        10     0  1 2 3   # <== frames 1 2 3 have no start frame: the largest is frame 2 (3 ticks); two frames from it on, going round, make 3 + 1 = 4, two from frame 1 on make 2 + 3 = 5
 # after 1 record: fill bits 0000
 ";
 
@@ -192,7 +192,7 @@ fn json_word_for_word() {
     assert_eq!(json("check", "g"), "{\"file\":\"-\",\"verdict\":\"missed\",\"tasks\":2,\"task\":0,\"blocker\":1}\n");
     assert_eq!(json("check", "d"), "{\"file\":\"-\",\"verdict\":\"missed\",\"tasks\":2,\"task\":1,\"blocker\":null}\n");
     let refused = json::object(json("check", "i").trim_end());
-    assert_eq!(refused.keys(), ["file", "verdict", "refusal", "task", "words"]);
+    assert_eq!(refused.keys(), ["file", "verdict", "refusal", "task", "reason", "words"]);
     assert_eq!((refused.get("refusal"), refused.get("task")), (&Value::Number(11), &Value::Number(0)));
     let missed = json::object(json("explain", "g").trim_end());
     assert_eq!(missed.keys(), ["file", "verdict", "tasks", "task", "blocker", "policy", "policy_name", "order", "list", "demand"]);

@@ -13,11 +13,12 @@ use Rattle.theory.proofs.Search.{some-found, none-found}
 use Rattle.sheet.specs.Constants.{most-tasks, most-frames}
 use Rattle.sheet.specs.Tasks.{task-in, records-of}
 use Rattle.lent.specs.Checks.{_⇒_}
-use Rattle.sheet.specs.Admission.{decided, miscounted, known-policy, in-range, well-formed, lock-fits, monotonic, policy-check, task-count-check, frame-count-check, task-checks, frame-count-checks, list-checks, admission}
+use Rattle.sheet.specs.Admission.{decided, miscounted, known-policy, in-range, well-formed, lock-fits, monotonic, reason-of, policy-check, task-count-check, frame-count-check, task-checks, frame-count-checks, list-checks, admission}
 use Rattle.sheet.specs.declared.Task.{Task as Record}
 use Rattle.sheet.specs.declared.TaskSet.{TaskSet}
 use Rattle.sheet.specs.declared.Answer.{Answer}
 use Rattle.sheet.specs.declared.Answer.the-variants.{Admitted, Refused}
+use Rattle.sheet.specs.declared.Reason.{Reason}
 use Rattle.sheet.specs.declared.Refusal.{Refusal}
 use Rattle.sheet.specs.declared.Refusal.the-variants.{Policy, TaskCount, FrameCount, IllFormed, Lock, NotMonotonic}
 use Rattle.sheet.proofs.Checks.{applies, passed-over, no-check, admitted-first, refused-first}
@@ -59,18 +60,20 @@ module _ (i : ℕ) (t : Task) where
     lock-above e = by-checks (Refused (Lock i)) (passed-over _ _ _ (ap not formed) ∙ applies _ _ _ (ap not (locks false e)))
 
     module _ (fits : leb (t .lock) most ≡ true) where
-      to-the-third : decided (task-checks i (t ∷ [])) ≡ decided ((not (monotonic t) ⇒ NotMonotonic i) ∷ [])
+      to-the-third : decided (task-checks i (t ∷ [])) ≡ decided ((not (monotonic t) ⇒ NotMonotonic i (reason-of t)) ∷ [])
       unfolding task-checks
       to-the-third = passed-over _ _ _ (ap not formed) ∙ passed-over _ _ _ (ap not (locks true fits))
 
-      pub no-start : start-of t ≡ Nowhere → TurnedAway (NotMonotonic i) ≡ task-answer i t
+      pub no-start : (why : Reason) → start-of t ≡ Nowhere why → TurnedAway (NotMonotonic i why) ≡ task-answer i t
       unfolding start-of monotonic
-      no-start e = by-checks (Refused (NotMonotonic i)) (to-the-third ∙ applies _ _ _ (ap not (none-found (found-nowhere _ e))))
+      no-start why e =
+          let (none-starts, same) = found-nowhere (reason-of t) _ why e in
+          rw same (by-checks (Refused (NotMonotonic i (reason-of t))) (to-the-third ∙ applies _ _ _ (ap not (none-found none-starts))))
 
       pub with-start : (s : ℕ) → start-of t ≡ At s → Shaped (record { start = s; largest = most }) ≡ task-answer i t
       unfolding start-of monotonic start-frame shape-of
       with-start s e =
-          let start = found-at _ s e in
+          let start = found-at (reason-of t) _ s e in
           rw (most-is, ← ap (λ (o : Option ℕ). Option·getD o 0) start)
           (by-checks Admitted (to-the-third ∙ passed-over _ _ _ (ap not (some-found start)) ∙ no-check))
 

@@ -1,7 +1,7 @@
 -- A loop over a row of numbers, from a up to e: what is left of a search and of a test for all, turn by turn.
 use mathlib.Core.Bool.{Bool, true, false}
-use mathlib.Core.Option.{none, some}
-use mathlib.Core.Path.{_≡_}
+use mathlib.Core.Option.{Option, none, some}
+use mathlib.Core.Path.{_≡_, sym, _∙_}
 use Prim.Native.Nat.{ℕ, suc, _+_, _-_, _≤_, _<_}
 use native.Mathlib.Numerals.{add-one}
 use native.Mathlib.Omega.{arith}
@@ -27,14 +27,19 @@ module _ (test : ℕ → Bool) (a e : ℕ) where
   unfolding every
   every-ends h = rw (none-left a e h)
 
-  pub first-passes : a < e → test a ≡ true → first a (e - a) test ≡ some a
+-- a search for the first, of which the numbers from a on are left: what the whole search finds
+module _ (test : ℕ → Bool) {whole : Option ℕ} (a e : ℕ) (left : first a (e - a) test ≡ whole) where
+  pub search-hits : a < e → test a ≡ true → whole ≡ some a
   unfolding first
-  first-passes h t = rw (split a e h, t, first)
+  search-hits h t = sym left ∙ rw (split a e h, t, first)
 
-  pub first-fails : a < e → test a ≡ false → first a (e - a) test ≡ first (a + 1) (e - (a + 1)) test
+  pub search-goes-on : a < e → test a ≡ false → first (a + 1) (e - (a + 1)) test ≡ whole
   unfolding first
-  first-fails h t = rw (add-one a, split a e h, t, first)
+  search-goes-on h t = sym step ∙ left
+    where
+      step : first a (e - a) test ≡ first (a + 1) (e - (a + 1)) test
+      step = rw (add-one a, split a e h, t, first)
 
-  pub first-ends : e ≤ a → first a (e - a) test ≡ none
+  pub search-ends : e ≤ a → whole ≡ none
   unfolding first
-  first-ends h = rw (none-left a e h)
+  search-ends h = sym left ∙ rw (none-left a e h)

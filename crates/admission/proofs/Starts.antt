@@ -1,19 +1,22 @@
 -- The start frame: frame by frame and length by length, and from the frames alone.
 use mathlib.Core.Bool.{Bool, true, false}
 use mathlib.Core.Option.{Option, none, some}
-use mathlib.Core.Path.{_≡_, refl, sym, ap, _∙_, fun-ext}
+use mathlib.Core.Path.{_≡_, refl, sym, ap, ap₂, fun-ext}
 use Prim.Native.Nat.{ℕ, zero, suc, _+_, _-_, _≤_, _<_}
 use native.Mathlib.Nat.{sub-zero}
 use native.Mathlib.Omega.{arith}
 use lib.Dec.{leb}
-use Rattle.theory.specs.First.{first, every}
-use Rattle.theory.specs.Tasks.{Task, frame-count, frame, work, qualifies}
+use Rattle.theory.specs.First.{first, every, found}
+use Rattle.theory.specs.Tasks.{Task, frame-count, frame, work, largest-frame, qualifies}
+use Rattle.theory.specs.Reason.{exceeds, exceeding, exceeded, exceeded-length, exceeding-frame}
 use Rattle.theory.proofs.Search.{every-at, every-is}
 use Rattle.theory.proofs.Work.{work-zero, work-suc}
+use Rattle.sheet.specs.Admission.{reason-of}
+use Rattle.sheet.specs.declared.Reason.{Reason}
 use Rattle.admission.specs.Inside.Frames.{of-frames, from-at-least}
 use Rattle.admission.specs.Start.{start-found, start-of}
 use Rattle.admission.specs.declared.Start.the-variants.{At, Nowhere}
-use Rattle.admission.proofs.Rows.{every-passes, every-fails, every-ends, first-passes, first-fails, first-ends}
+use Rattle.admission.proofs.Rows.{every-passes, every-fails, every-ends}
 use Rattle.admission.proofs.Tests.{same-outcome}
 
 every-swap : (a m b n : ℕ) (test : ℕ → ℕ → Bool)
@@ -24,21 +27,17 @@ every-swap a m b n test =
     (λ e. every-is a m _ (λ x l u. every-is b n _ (λ y l′ u′. every-at a m (λ x. test x y) (every-at b n (λ y. every a m (λ x. test x y)) e y l′ u′) x l u)))
 
 -- what was found, from the answer
-pub found-at : (o : Option ℕ) (s : ℕ) → start-found o ≡ At s → o ≡ some s
-found-at none s e = let z : _≡_ {A = ℕ} 0 1 = cc in let z : ⊥ = omega arith in absurd z
-found-at (some n) s e = ap some (cc)
+pub found-at : (why : Reason) (o : Option ℕ) (s : ℕ) → start-found why o ≡ At s → o ≡ some s
+found-at why none s e = let z : _≡_ {A = ℕ} 0 1 = cc in let z : ⊥ = omega arith in absurd z
+found-at why (some n) s e = ap some (cc)
 
-pub found-nowhere : (o : Option ℕ) → start-found o ≡ Nowhere → o ≡ none
-found-nowhere none e = refl
-found-nowhere (some n) e = let z : _≡_ {A = ℕ} 0 1 = cc in let z : ⊥ = omega arith in absurd z
+pub found-nowhere : (why : Reason) (o : Option ℕ) (said : Reason) → start-found why o ≡ Nowhere said → (o ≡ none) × (said ≡ why)
+found-nowhere why none said e = (refl, cc)
+found-nowhere why (some n) said e = let z : _≡_ {A = ℕ} 0 1 = cc in let z : ⊥ = omega arith in absurd z
 
 -- frames k on are left to compare with frame s
 pub others-left : Task → ℕ → ℕ → ℕ → Bool
 others-left t count s k = every k (count - k) (from-at-least t s)
-
--- frames s on are left to try as the start
-pub starts-left : Task → ℕ → ℕ → Option ℕ
-starts-left t count s = first s (count - s) (qualifies t)
 
 module _ (t : Task) where
   pub others-all : (count s : ℕ) → frame-count t ≡ count → others-left t count s 0 ≡ qualifies t s
@@ -58,22 +57,10 @@ module _ (t : Task) where
   unfolding others-left
   others-end count s k h = every-ends (from-at-least t s) k count h
 
-  pub starts-all : (count : ℕ) → frame-count t ≡ count → starts-left t count 0 ≡ first 0 (frame-count t) (qualifies t)
-  unfolding starts-left
-  starts-all count e = rw (e, sub-zero count)
-
-  module _ (count s : ℕ) (was : starts-left t count s ≡ first 0 (frame-count t) (qualifies t)) where
-    pub starts-pass : s < count → qualifies t s ≡ true → start-of t ≡ At s
-    unfolding start-of starts-left
-    starts-pass h e = ap start-found (sym was ∙ first-passes (qualifies t) s count h e)
-
-    pub starts-fail : s < count → qualifies t s ≡ false → starts-left t count (s + 1) ≡ first 0 (frame-count t) (qualifies t)
-    unfolding starts-left
-    starts-fail h e = sym (first-fails (qualifies t) s count h e) ∙ was
-
-    pub starts-end : count ≤ s → start-of t ≡ Nowhere
-    unfolding start-of starts-left
-    starts-end h = ap start-found (sym was ∙ first-ends (qualifies t) s count h)
+  -- the answer, by what the search found
+  pub start-by : {o : Option ℕ} → first 0 (frame-count t) (qualifies t) ≡ o → start-of t ≡ start-found (reason-of t) o
+  unfolding start-of
+  start-by e = rw e
 
   -- what the frames alone decide
   frame-of-frames : (k : ℕ) → frame (of-frames (t .frames)) k ≡ frame t k
@@ -88,6 +75,26 @@ module _ (t : Task) where
   unfolding qualifies frame-count of-frames
   qualifies-of-frames s = simp work-of-frames
 
+  exceeds-of-frames : (s n k : ℕ) → exceeds (of-frames (t .frames)) s n k ≡ exceeds t s n k
+  unfolding exceeds
+  exceeds-of-frames s n k = rw (work-of-frames s n, work-of-frames k n)
+
+  exceeding-of-frames : (s n : ℕ) → exceeding (of-frames (t .frames)) s n ≡ exceeding t s n
+  unfolding exceeding frame-count of-frames
+  exceeding-of-frames s n = ap (λ (q : ℕ → Bool). first 0 (frame-count t) q) (fun-ext (exceeds-of-frames s n))
+
+  exceeded-of-frames : (s : ℕ) → exceeded (of-frames (t .frames)) s ≡ exceeded t s
+  unfolding exceeded frame-count of-frames
+  exceeded-of-frames s = ap (λ (q : ℕ → Bool). first 1 (frame-count t) q) (fun-ext (λ n. ap found (exceeding-of-frames s n)))
+
+  largest-of-frames : largest-frame (of-frames (t .frames)) ≡ largest-frame t
+  unfolding largest-frame frame frame-count of-frames
+  largest-of-frames = refl
+
+  reason-of-frames : reason-of (of-frames (t .frames)) ≡ reason-of t
+  unfolding reason-of exceeded-length exceeding-frame
+  reason-of-frames = rw (largest-of-frames, exceeded-of-frames, exceeding-of-frames)
+
   pub start-of-frames : start-of (of-frames (t .frames)) ≡ start-of t
   unfolding start-of frame-count of-frames
-  start-of-frames = ap (λ (q : ℕ → Bool). start-found (first 0 (frame-count t) q)) (fun-ext qualifies-of-frames)
+  start-of-frames = ap₂ (λ (why : Reason) (q : ℕ → Bool). start-found why (first 0 (frame-count t) q)) reason-of-frames (fun-ext qualifies-of-frames)

@@ -1,27 +1,30 @@
 // Admission of a task list by value: the start frame of a task, 9, 10 and 11 task by task, and the whole order for a list.
 ghost use mathlib.Core.Bool.{_&&_};
 ghost use mathlib.Core.List.{map};
+ghost use mathlib.Core.Option.{Option·getD};
 ghost use mathlib.Core.Path.{_≡_};
 ghost use Prim.Native.Nat.{_≤_, _<_, _^_};
 ghost use lib.ListN.{length, take};
-ghost use Rattle.theory.specs.Tasks.{largest, qualifies};
+ghost use Rattle.theory.specs.Tasks.{work, largest, largest-frame, qualifies};
+ghost use Rattle.theory.specs.Reason.{exceeding};
 ghost use Rattle.sheet.specs.Constants.{most-frames};
 ghost use Rattle.sheet.specs.Tasks.{task-in, records-of};
-ghost use Rattle.sheet.specs.Admission.{decided, in-range, well-formed, task-checks, frame-count-checks, admission};
+ghost use Rattle.sheet.specs.Admission.{decided, in-range, well-formed, reason-of, task-checks, frame-count-checks, admission};
 ghost use Rattle.admission.specs.Start.{start-of};
 ghost use Rattle.admission.specs.Judged.{no-shape, refused-judged, judged};
 ghost use Rattle.admission.specs.Inside.Frames.{of-frames, from-at-least, all-between};
 ghost use Rattle.admission.specs.Inside.Steps.{task-answer};
 use sheet::Answer;
+use sheet::Reason;
 use sheet::Refusal;
 use sheet::Sheet;
 use sheet::Task;
 use sheet::TaskSet;
 
-// The start frame of a task, if it has one.
+// The start frame of a task, or why it has none.
 pub enum Start {
     At(u32),
-    Nowhere,
+    Nowhere(Reason),
 }
 
 // The shape of a task's frames: the start frame, and the largest frame time.
@@ -98,20 +101,6 @@ fn qualifies(frames: &[u32; Sheet::FRAME_ROOM], count: usize, s: usize) -> bool
     true
 }
 
-// The lowest-numbered frame that qualifies.
-pub fn start_frame(task: Task) -> Start
-    ensures { λ r. ⌜ r ≡ start-of (task-in task) ⌝ }
-{
-    let frames = task.frames;
-    let count = sheet::in_use(task.frame_count as usize, Sheet::FRAME_ROOM);
-    for s in 0..count {
-        if qualifies(&frames, count, s) {
-            return Start::At(s as u32);
-        }
-    }
-    Start::Nowhere
-}
-
 fn largest(frames: &[u32; Sheet::FRAME_ROOM], count: usize) -> u32
     requires { ⌜ (length (now frames) ≡ most-frames) × (count ≤ most-frames) ⌝ }
     ensures { λ r. ⌜ r ≡ largest (take count (now (frames .entry))) ⌝ }
@@ -124,6 +113,85 @@ fn largest(frames: &[u32; Sheet::FRAME_ROOM], count: usize) -> u32
         }
     }
     most
+}
+
+// The lowest-numbered largest frame; 0 where there is no frame.
+fn largest_frame(frames: &[u32; Sheet::FRAME_ROOM], count: usize) -> usize
+    requires { ⌜ (length (now frames) ≡ most-frames) × (count ≤ most-frames) ⌝ }
+    ensures { λ r. ⌜ r ≡ largest-frame (of-frames (take count (now (frames .entry)))) ⌝ }
+{
+    let most = largest(frames, count);
+    for k in 0..count {
+        if frames[k] == most {
+            return k;
+        }
+    }
+    0
+}
+
+// The sum of n frames from frame s, going round.
+fn sum_from(frames: &[u32; Sheet::FRAME_ROOM], count: usize, s: usize, n: usize) -> u64
+    requires { ⌜ (length (now frames) ≡ most-frames) × (count ≤ most-frames) × (s < count) × (n ≤ most-frames) ⌝ }
+    ensures { λ r. ⌜ r ≡ work (of-frames (take count (now (frames .entry)))) s n ⌝ }
+{
+    let mut sum: u64 = 0;
+    let mut i = s;
+    for _ in 0..n {
+        sum += wide(frames[i]);
+        i = sheet::next_frame(i, count);
+    }
+    sum
+}
+
+// The lowest-numbered frame with a greater sum of n frames than frame s; the number of frames where there is none.
+fn exceeding(frames: &[u32; Sheet::FRAME_ROOM], count: usize, s: usize, n: usize) -> usize
+    requires { ⌜ (length (now frames) ≡ most-frames) × (count ≤ most-frames) × (s < count) × (n ≤ most-frames) ⌝ }
+    ensures { λ r. ⌜ r ≡ Option·getD (exceeding (of-frames (take count (now (frames .entry)))) s n) count ⌝ }
+{
+    let sum = sum_from(frames, count, s, n);
+    for other in 0..count {
+        if sum < sum_from(frames, count, other, n) {
+            return other;
+        }
+    }
+    count
+}
+
+// Why no frame qualifies: who exceeds the largest frame, and at what length; 0 and 0 where nobody does.
+fn reason(frames: &[u32; Sheet::FRAME_ROOM], count: usize) -> Reason
+    requires { ⌜ (length (now frames) ≡ most-frames) × (count ≤ most-frames) ⌝ }
+    ensures { λ r. ⌜ r ≡ reason-of (of-frames (take count (now (frames .entry)))) ⌝ }
+{
+    let frame = largest_frame(frames, count);
+    for n in 1..count + 1 {
+        let other = exceeding(frames, count, frame, n);
+        if other < count {
+            return Reason {
+                frame: frame as u32,
+                length: n as u32,
+                other: other as u32,
+            };
+        }
+    }
+    Reason {
+        frame: frame as u32,
+        length: 0,
+        other: 0,
+    }
+}
+
+// The lowest-numbered frame that qualifies, or why none does.
+pub fn start_frame(task: Task) -> Start
+    ensures { λ r. ⌜ r ≡ start-of (task-in task) ⌝ }
+{
+    let frames = task.frames;
+    let count = sheet::in_use(task.frame_count as usize, Sheet::FRAME_ROOM);
+    for s in 0..count {
+        if qualifies(&frames, count, s) {
+            return Start::At(s as u32);
+        }
+    }
+    Start::Nowhere(reason(&frames, count))
 }
 
 // Whether every frame time lies in least to greatest.
@@ -195,7 +263,7 @@ fn task_answer(task: Task, number: u32) -> TaskAnswer
     }
     match start_frame(task) {
         Start::At(start) => TaskAnswer::Shaped(Shape { start, largest }),
-        Start::Nowhere => TaskAnswer::TurnedAway(Refusal::NotMonotonic(number)),
+        Start::Nowhere(why) => TaskAnswer::TurnedAway(Refusal::NotMonotonic(number, why)),
     }
 }
 

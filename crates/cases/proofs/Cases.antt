@@ -5,6 +5,7 @@ use Rattle.bits.specs.Packed.{value, digits, bits-of, bytes-of}
 use Rattle.check_word.specs.Division.{added, polynomial, divided, remainder, started, check-word, seal, body, sealed}
 use Rattle.theory.specs.First.{first, every, found}
 use Rattle.theory.specs.Tasks.{task-at, frame-count, frame, work, largest, largest-frame, qualifies, start-frame, deadline-of, shortest-deadline}
+use Rattle.theory.specs.Reason.{exceeds, exceeding, exceeded, exceeded-length, exceeding-frame}
 use Rattle.theory.specs.Analysis.{lower, largest-lock, blocking, blocker, higher, releases, higher-work, demand, response, demand-of, response-of, passes, verdict}
 use Rattle.records.specs.Rows.{packed, unpacked, total}
 use Rattle.records.specs.Sealed.{whole-bytes, sealed-record, some-set}
@@ -12,7 +13,7 @@ use Rattle.sheet.specs.Layout.{header-in, behind-header, frame-count-in, record
 use Rattle.sheet.specs.Reading.{layout-checks, sheet-checks, policy-of, tasks-of}
 use Rattle.sheet.specs.Tasks.{task-in, record-of, records-of, set-with, blank-record}
 use Rattle.lent.specs.Checks.{first-refusal}
-use Rattle.sheet.specs.Admission.{decided, known-policy, all, is-time, in-range, well-formed, lock-fits, monotonic, policy-check, task-count-check, frame-count-check, task-checks, frame-count-checks, list-checks, admission}
+use Rattle.sheet.specs.Admission.{decided, known-policy, all, is-time, in-range, well-formed, lock-fits, monotonic, reason-of, policy-check, task-count-check, frame-count-check, task-checks, frame-count-checks, list-checks, admission}
 use Rattle.sheet.specs.Writing.{header-bits, task-bits, tasks-bits, sheet-of}
 use Rattle.order.specs.Order.{key, is-higher, placed, order-from, priority-order, ordered-set}
 use Rattle.analysis.specs.Times.{number-at, place-of, blocker-number, verdict-number, outcome-of, times-from, slots-by, slots-of}
@@ -24,5 +25,5 @@ use Rattle.cases.specs.Table.{in-eights, given-by, given, Agrees, table}
 
 -- The definitions give every case of the table its answers.
 pub cases-a-to-m : Agrees table
-unfolding table Agrees given given-by in-eights times-by-number in-turn numbers-found findings-of findings-from finding-at no-finding set-analysis analysis-by refused-analysis outcome-of number-at place-of blocker-number verdict-number times-from slots-by slots-of key is-higher placed order-from priority-order ordered-set admission decided first-refusal known-policy all is-time in-range well-formed lock-fits monotonic policy-check task-count-check frame-count-check task-checks frame-count-checks list-checks task-in record-of records-of set-with blank-record lower largest-lock blocking blocker higher releases higher-work demand response demand-of response-of passes verdict task-at frame-count frame work largest largest-frame qualifies start-frame deadline-of shortest-deadline first every found body sheet-of sealed-record seal whole-bytes header-bits tasks-bits task-bits packed bytes-of digits value report first-line blocker-word time-words task-line task-lines lines-behind line decimal decimal-of outcome-by sheet-checks layout-checks policy-of tasks-of tasks-in task-at-start record-width frame-count-in behind-header header-in some-set unpacked total sealed check-word remainder divided started added polynomial xor bits-of
+unfolding table Agrees given given-by in-eights times-by-number in-turn numbers-found findings-of findings-from finding-at no-finding set-analysis analysis-by refused-analysis outcome-of number-at place-of blocker-number verdict-number times-from slots-by slots-of key is-higher placed order-from priority-order ordered-set admission decided first-refusal known-policy all is-time in-range well-formed lock-fits monotonic exceeds exceeding exceeded exceeded-length exceeding-frame reason-of policy-check task-count-check frame-count-check task-checks frame-count-checks list-checks task-in record-of records-of set-with blank-record lower largest-lock blocking blocker higher releases higher-work demand response demand-of response-of passes verdict task-at frame-count frame work largest largest-frame qualifies start-frame deadline-of shortest-deadline first every found body sheet-of sealed-record seal whole-bytes header-bits tasks-bits task-bits packed bytes-of digits value report first-line blocker-word time-words task-line task-lines lines-behind line decimal decimal-of outcome-by sheet-checks layout-checks policy-of tasks-of tasks-in task-at-start record-width frame-count-in behind-header header-in some-set unpacked total sealed check-word remainder divided started added polynomial xor bits-of
 cases-a-to-m = refl

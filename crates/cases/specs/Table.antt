@@ -8,6 +8,7 @@ use Rattle.theory.specs.Tasks.{Task, task-at, start-frame}
 use Rattle.sheet.specs.Constants.{most-frames}
 use Rattle.sheet.specs.Tasks.{set-with}
 use Rattle.sheet.specs.Writing.{sheet-of}
+use Rattle.sheet.specs.declared.Reason.{Reason}
 use Rattle.sheet.specs.declared.Refusal.the-variants.{TaskCount, IllFormed, Lock, NotMonotonic}
 use Rattle.order.specs.Order.{priority-order}
 use Rattle.order.specs.declared.Blocker.the-variants.{At, Nobody}
@@ -60,6 +61,10 @@ in-eights (ts ∷ rows) = ts ++ replicate (most-frames - length ts) 0 ++ in-eigh
 abbrev times : Outcome → List (List ℕ) → Expected
 times outcome rows = analysed outcome (in-eights rows)
 
+-- why there is no start: the largest frame, the length, the other frame
+abbrev why : ℕ → ℕ → ℕ → Reason
+why frame length other = record { frame = frame; length = length; other = other }
+
 -- what an analysis gives
 unfoldable pub given-by : Analysis → Expected
 given-by a = analysed (a .outcome) (times-by-number a)
@@ -106,7 +111,7 @@ table =
     -- H
     ∷ case 0 (with-deadline 10 4 (2 ∷ []) ∷ with-lock 20 1 (5 ∷ []) ∷ []) (times Holds ((2 ∷ []) ∷ (7 ∷ []) ∷ []) ∷ [])
     -- I
-    ∷ case 0 (plain 10 (1 ∷ 2 ∷ 3 ∷ []) ∷ []) (times (Refused (NotMonotonic 0)) [] ∷ [])
+    ∷ case 0 (plain 10 (1 ∷ 2 ∷ 3 ∷ []) ∷ []) (times (Refused (NotMonotonic 0 (why 2 2 1))) [] ∷ [])
     -- J
     ∷ case 0 (plain 10 (3 ∷ 2 ∷ 1 ∷ 5 ∷ []) ∷ []) (start 3 ∷ times Holds ((3 ∷ 2 ∷ 1 ∷ 5 ∷ []) ∷ []) ∷ [])
     -- K

@@ -66,23 +66,24 @@ module _ {R : Type 0} where
           let z : ⊥ = omega arith in
           absurd z
 
--- ---- what is true of each refusal of a row is true of the one that it gives
+-- ---- what is true of each refusal that a row can give is true of the one that it gives
 
 module _ {R : Type 0} (P : R → Type 0) where
+  -- of each where its check applies and none before it does
   abbrev pub Each : List (Check R) → Type 0
   Each [] = Unit {0}
-  Each (c ∷ cs) = P (c .refusal) × Each cs
+  Each (c ∷ cs) = (c .applies ≡ true → P (c .refusal)) × (c .applies ≡ false → Each cs)
 
-  pub each-append : (cs ds : List (Check R)) → Each cs → Each ds → Each (cs ++ ds)
-  each-append [] ds n m = m
-  each-append (c ∷ cs) ds n m = (n .0, each-append cs ds (n .1) m)
+  pub each-append : (cs ds : List (Check R)) → Each cs → (first-refusal cs ≡ none → Each ds) → Each (cs ++ ds)
+  each-append [] ds n m = m no-check
+  each-append (c ∷ cs) ds n m = (n .0, λ e. each-append cs ds (n .1 e) (λ none-applies. m (passed-over (c .applies) (c .refusal) cs e ∙ none-applies)))
 
   pub each-first : (cs : List (Check R)) → Each cs → (r : R) → first-refusal cs ≡ some r → P r
   unfolding first-refusal
   each-first [] n r e = let z : _≡_ {A = ℕ} 0 1 = cc in let y : ⊥ = omega arith in absurd y
-  each-first (c ∷ cs) n r e = go (c .applies) e (each-first cs (n .1) r)
+  each-first (c ∷ cs) n r e = go (c .applies) refl e (λ (later : Each cs). each-first cs later r)
     where
-      go : (b : Bool) → _≡_ {A = Option R} (elim b as (λ (x : Bool). Option R) [ true ↦ some (c .refusal) | false ↦ first-refusal cs ]) (some r)
-          → (first-refusal cs ≡ some r → P r) → P r
-      go true q rec = let z : c .refusal ≡ r = cc in subst P z (n .0)
-      go false q rec = rec q
+      go : (b : Bool) → c .applies ≡ b → _≡_ {A = Option R} (elim b as (λ (x : Bool). Option R) [ true ↦ some (c .refusal) | false ↦ first-refusal cs ]) (some r)
+          → (Each cs → first-refusal cs ≡ some r → P r) → P r
+      go true a q rec = let z : c .refusal ≡ r = cc in subst P z (n .0 a)
+      go false a q rec = rec (n .1 a) q

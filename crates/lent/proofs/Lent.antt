@@ -68,7 +68,7 @@ module _ {R A X : Type 0} (full : R) (refused : R → X) (call : Call R A X) (me
       go none e = roomy e (decLt (length memory) (length (call .writes)))
       go (some r) e = turned-away r (by-checks r e)
 
-  -- what is true of each refusal of its checks, and of the want of room, is true of the one that it gives
+  -- what is true of each refusal that its checks can give, and of the want of room, is true of the one that it gives
   pub each-refusal : (P : R → Type 0) → Each P (call .checks) → P full → (r : R) → refusal-of full call memory ≡ some r → P r
   unfolding refusal-of
-  each-refusal P each last r e = each-first P _ (each-append P (call .checks) _ each (last, tt)) r e
+  each-refusal P each last r e = each-first P _ (each-append P (call .checks) _ each (λ _. (λ _. last, λ _. tt))) r e

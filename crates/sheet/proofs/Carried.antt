@@ -37,7 +37,7 @@ carried-fit {ts} c = tasks-in-fields 0 ts (c .formed) (each-map (λ t h. h .1) (
 
 -- ---- an admitted set
 
-few-by-checks : (i : ℕ) (rs : List Record) → decided (frame-count-checks i rs) ≡ Admitted → Each FewFrames (map task-in rs)
+pub few-by-checks : (i : ℕ) (rs : List Record) → decided (frame-count-checks i rs) ≡ Admitted → Each FewFrames (map task-in rs)
 unfolding frame-count-checks frame-count-check task-in
 few-by-checks i [] e = no-task
 few-by-checks i (r ∷ rs) e =

@@ -13,6 +13,7 @@ pub mod SheetBits
 pub mod WhatIsWritten
 pub mod RoundTrip
 pub mod Changes
+pub mod Refused
 pub mod TurnedAway
 pub mod Determined
 pub mod Analysable

@@ -16,5 +16,5 @@ number-small (FrameCount i) = lit< tt
 number-small Records = lit< tt
 number-small (IllFormed i) = lit< tt
 number-small (Lock i) = lit< tt
-number-small (NotMonotonic i) = lit< tt
+number-small (NotMonotonic i why) = lit< tt
 number-small Room = lit< tt

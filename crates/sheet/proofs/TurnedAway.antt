@@ -1,4 +1,5 @@
--- Lists that are turned away whichever task it is: of no task, with a deadline one above the period, with a lock one above the largest frame.
+-- Lists that are turned away whichever task it is: of no task, with a deadline one above the period, with a lock one above the largest frame, with frames
+-- that have no start.
 use mathlib.Core.Bool.{Bool, true, false, not, _&&_, and-eq-true-iff, and-false}
 use mathlib.Core.List.{List, [], _∷_, _++_}
 use mathlib.Core.Path.{_≡_, refl, sym, ap, _∙_}
@@ -8,11 +9,11 @@ use native.Mathlib.Omega.{arith}
 use borrow.Author.Tests.{le-leb, lt-leb}
 use lib.Dec.{leb}
 use lib.ListN.{length, length-append}
-use Rattle.theory.specs.Tasks.{Task, largest}
+use Rattle.theory.specs.Tasks.{Task, largest, Monotonic}
 use Rattle.sheet.specs.Constants.{most-tasks, greatest-time}
 use Rattle.sheet.specs.Tasks.{set-with}
 use Rattle.lent.specs.Checks.{Check, _⇒_}
-use Rattle.sheet.specs.Admission.{decided, all, in-range, well-formed, lock-fits, monotonic, known-policy, policy-check, task-count-check, list-checks, task-checks, admission}
+use Rattle.sheet.specs.Admission.{decided, all, in-range, well-formed, lock-fits, monotonic, reason-of, known-policy, policy-check, task-count-check, list-checks, task-checks, admission}
 use Rattle.sheet.specs.declared.Answer.the-variants.{Admitted, Refused}
 use Rattle.sheet.specs.declared.Refusal.{Refusal}
 use Rattle.sheet.specs.declared.Refusal.the-variants.{TaskCount, IllFormed, Lock, NotMonotonic}
@@ -20,6 +21,7 @@ use Rattle.sheet.proofs.Checks.{applies, admitted-first, passed-over}
 use Rattle.sheet.proofs.Counts.{policy-passes}
 use Rattle.sheet.proofs.InFields.{Each, FramesCounted, Ranged, range-of}
 use Rattle.sheet.proofs.Carried.{answer-of-tasks}
+use Rattle.sheet.proofs.Refused.{not-monotonic}
 
 -- The list of no task gives 6.
 pub no-task-is-6 : (policy : ℕ) → known-policy policy ≡ true → admission (set-with policy []) ≡ Refused TaskCount
@@ -34,7 +36,7 @@ checks-behind i (u ∷ us) ts =
     ap (λ (cs : List (Check Refusal)). first-checks ++ cs) (checks-behind (suc i) us ts ∙ ap (λ (n : ℕ). task-checks (suc i) us ++ task-checks n ts) (omega arith))
   where
     first-checks : List (Check Refusal)
-    first-checks = (not (in-range u && well-formed u) ⇒ IllFormed i) ∷ (not (lock-fits u) ⇒ Lock i) ∷ (not (monotonic u) ⇒ NotMonotonic i) ∷ []
+    first-checks = (not (in-range u && well-formed u) ⇒ IllFormed i) ∷ (not (lock-fits u) ⇒ Lock i) ∷ (not (monotonic u) ⇒ NotMonotonic i (reason-of u)) ∷ []
 
 -- a list in which task number `length us` is t: policy and counts are in order, and the tasks before t pass
 pub record Reaches (policy : ℕ) (us : List Task) (t : Task) (vs : List Task) : Type 0 where
@@ -86,3 +88,14 @@ lock-above-largest-is-10 policy us t vs r e f h =
     reached policy us (with-lock t q) vs r
     ∙ passed-over _ _ _ (ap not (and-eq-true-iff (in-range (with-lock t q)) (well-formed t) .1 (lock-in-range t q e (omega arith), f)))
     ∙ applies (not (lock-fits (with-lock t q))) (Lock (length us)) _ (ap not (lt-leb q (largest (t .frames)) (omega arith)))
+
+-- A task in range and well formed whose lock fits gives 11 if no frame of it qualifies as start, and says why.
+pub no-start-is-11 : (policy : ℕ) (us : List Task) (t : Task) (vs : List Task) → Reaches policy us t vs
+    → in-range t ≡ true → well-formed t ≡ true → lock-fits t ≡ true → ¬ Monotonic t
+    → admission (set-with policy (us ++ t ∷ vs)) ≡ Refused (NotMonotonic (length us) (reason-of t))
+unfolding task-checks
+no-start-is-11 policy us t vs r e f l none-starts =
+    reached policy us t vs r
+    ∙ passed-over _ _ _ (ap not (and-eq-true-iff (in-range t) (well-formed t) .1 (e, f)))
+    ∙ passed-over _ _ _ (ap not l)
+    ∙ applies (not (monotonic t)) (NotMonotonic (length us) (reason-of t)) _ (not-monotonic t .1 none-starts)

@@ -6,13 +6,15 @@ use Prim.Native.Nat.{ℕ, suc}
 use lib.Dec.{leb, ltb, eqb}
 use Rattle.lent.specs.Checks.{Check, _⇒_, first-refusal}
 use Rattle.theory.specs.First.{first, found}
-use Rattle.theory.specs.Tasks.{Task, frame-count, largest, qualifies}
+use Rattle.theory.specs.Tasks.{Task, frame-count, largest, largest-frame, qualifies}
+use Rattle.theory.specs.Reason.{exceeded-length, exceeding-frame}
 use Rattle.sheet.specs.Constants.{most-tasks, most-frames, greatest-time, deadline-monotonic}
 use Rattle.sheet.specs.Tasks.{task-in, records-of}
 use Rattle.sheet.specs.declared.Task.{Task as Record}
 use Rattle.sheet.specs.declared.TaskSet.{TaskSet}
 use Rattle.sheet.specs.declared.Answer.{Answer}
 use Rattle.sheet.specs.declared.Answer.the-variants.{Admitted, Refused}
+use Rattle.sheet.specs.declared.Reason.{Reason}
 use Rattle.sheet.specs.declared.Refusal.{Refusal}
 use Rattle.sheet.specs.declared.Refusal.the-variants.{Policy, TaskCount, FrameCount, IllFormed, Lock, NotMonotonic}
 
@@ -72,9 +74,13 @@ frame-count-check i n = miscounted n most-frames ⇒ FrameCount i
 abbrev pub form-checks : ℕ → Task → List (Check Refusal)
 form-checks i t = (not (in-range t && well-formed t) ⇒ IllFormed i) ∷ (not (lock-fits t) ⇒ Lock i) ∷ []
 
--- 11 of task i
+-- why no frame qualifies; zeros for a task with no frame, which 7 turns away before
+unfoldable pub reason-of : Task → Reason
+reason-of t = record { frame = largest-frame t; length = exceeded-length t; other = exceeding-frame t }
+
+-- 11 of task i, and why
 abbrev pub monotonic-check : ℕ → Task → Check Refusal
-monotonic-check i t = not (monotonic t) ⇒ NotMonotonic i
+monotonic-check i t = not (monotonic t) ⇒ NotMonotonic i (reason-of t)
 
 -- task by task 9, 10, 11. The first of the tasks has number i.
 unfoldable pub task-checks : ℕ → List Task → List (Check Refusal)

@@ -8,13 +8,14 @@ use Rattle.bits.specs.Packed.{value, digits, bits-of, bytes-of}
 use Rattle.check_word.specs.Division.{added, polynomial, divided, remainder, started, check-word, seal, body, sealed}
 use Rattle.lent.specs.Checks.{first-refusal}
 use Rattle.theory.specs.First.{first, every, found}
-use Rattle.theory.specs.Tasks.{Task, frame-count, frame, work, largest, qualifies, start-frame}
+use Rattle.theory.specs.Tasks.{Task, frame-count, frame, work, largest, largest-frame, qualifies, start-frame}
+use Rattle.theory.specs.Reason.{exceeds, exceeding, exceeded, exceeded-length, exceeding-frame}
 use Rattle.sheet.specs.Constants.{most-tasks, most-frames, greatest-time}
 use Rattle.records.specs.Rows.{packed, unpacked, total}
 use Rattle.records.specs.Sealed.{whole-bytes, sealed-record, some-set}
 use Rattle.sheet.specs.Tasks.{record-of, task-in, set-with, records-of, blank-set}
 use Rattle.sheet.specs.Layout.{header-in, behind-header, frame-count-in, record-width, task-at-start, tasks-in}
-use Rattle.sheet.specs.Admission.{decided, known-policy, all, is-time, in-range, well-formed, lock-fits, monotonic, policy-check, task-count-check, frame-count-check, task-checks, frame-count-checks, list-checks, admission}
+use Rattle.sheet.specs.Admission.{decided, known-policy, all, is-time, in-range, well-formed, lock-fits, monotonic, reason-of, policy-check, task-count-check, frame-count-check, task-checks, frame-count-checks, list-checks, admission}
 use Rattle.sheet.specs.Reading.{layout-checks, sheet-checks, policy-of, tasks-of, refused-reading, reading-of, reading}
 use Rattle.sheet.specs.Writing.{header-bits, task-bits, tasks-bits, sheet-of}
 use Rattle.sheet.specs.declared.Answer.{Answer}
@@ -31,7 +32,7 @@ answer-to tasks = admission (set-with 0 tasks)
 
 -- what an example opens in order to compute
 tasks : Unit {0}
-unfolding first every found frame-count frame work largest qualifies start-frame all is-time in-range well-formed lock-fits monotonic task-checks decided first-refusal known-policy policy-check task-count-check frame-count-check
+unfolding first every found frame-count frame work largest qualifies start-frame all is-time in-range well-formed lock-fits monotonic largest-frame exceeds exceeding exceeded exceeded-length exceeding-frame reason-of task-checks decided first-refusal known-policy policy-check task-count-check frame-count-check
 tasks = tt
 
 lists : Unit {0}
@@ -52,8 +53,9 @@ pub reading-of-small : reading (sheet-of 1 small) ≡ record { answer = Admitted
 unfolding sheets
 reading-of-small = refl
 
--- frames that grow have no start: 11 of a sheet, too
-pub reading-of-growing : reading (sheet-of 0 (plain 6 (1 ∷ 2 ∷ []) ∷ plain 9 (1 ∷ 2 ∷ 3 ∷ []) ∷ [])) ≡ record { answer = Refused (NotMonotonic 1); set = blank-set }
+-- frames that grow have no start: 11 of a sheet, too, and why
+pub reading-of-growing : reading (sheet-of 0 (plain 6 (1 ∷ 2 ∷ []) ∷ plain 9 (1 ∷ 2 ∷ 3 ∷ []) ∷ []))
+    ≡ record { answer = Refused (NotMonotonic 1 (record { frame = 2; length = 2; other = 1 })); set = blank-set }
 unfolding sheets
 reading-of-growing = refl
 

@@ -1,5 +1,6 @@
 -- The refusals by number (SCOPE.md, "What is turned away").
 use Prim.Native.Nat.{ℕ}
+use Rattle.sheet.specs.declared.Reason.{Reason}
 use Rattle.sheet.specs.declared.Refusal.{Refusal}
 use Rattle.sheet.specs.declared.Refusal.the-variants.{Length, CheckWord, Version, Policy, BitSet, TaskCount, FrameCount, Records, IllFormed, Lock, NotMonotonic, Room}
 
@@ -14,7 +15,7 @@ number-of (FrameCount i) = 7
 number-of Records = 8
 number-of (IllFormed i) = 9
 number-of (Lock i) = 10
-number-of (NotMonotonic i) = 11
+number-of (NotMonotonic i why) = 11
 number-of Room = 12
 
 -- the task that a refusal names: for 7, 9, 10 and 11; 0 for the others
@@ -29,5 +30,24 @@ task-of-refusal (FrameCount i) = i
 task-of-refusal Records = 0
 task-of-refusal (IllFormed i) = i
 task-of-refusal (Lock i) = i
-task-of-refusal (NotMonotonic i) = i
+task-of-refusal (NotMonotonic i why) = i
 task-of-refusal Room = 0
+
+-- where there is no reason to give
+abbrev pub no-reason : Reason
+no-reason = record { frame = 0; length = 0; other = 0 }
+
+-- the reason that a refusal gives: for 11; none for the others
+abbrev pub reason-of-refusal : Refusal → Reason
+reason-of-refusal Length = no-reason
+reason-of-refusal CheckWord = no-reason
+reason-of-refusal Version = no-reason
+reason-of-refusal Policy = no-reason
+reason-of-refusal BitSet = no-reason
+reason-of-refusal TaskCount = no-reason
+reason-of-refusal (FrameCount i) = no-reason
+reason-of-refusal Records = no-reason
+reason-of-refusal (IllFormed i) = no-reason
+reason-of-refusal (Lock i) = no-reason
+reason-of-refusal (NotMonotonic i why) = why
+reason-of-refusal Room = no-reason

@@ -7,7 +7,7 @@ ghost use Rattle.sheet.specs.Constants.{most-frames};
 ghost use Rattle.sheet.specs.Fields.{header-widths, fixed-widths, frame-widths};
 ghost use Rattle.sheet.specs.Tasks.{task-in, blank-record, blank-set, next-round};
 ghost use Rattle.sheet.specs.Admission.{known-policy, miscounted};
-ghost use Rattle.sheet.specs.Refusals.{number-of, task-of-refusal};
+ghost use Rattle.sheet.specs.Refusals.{number-of, task-of-refusal, no-reason, reason-of-refusal};
 
 // A task as the workbench holds it: slots of `frames` past `frame_count` are not read, and are 0 when a record is filled.
 #[repr(C)]
@@ -263,7 +263,28 @@ pub fn shortest_deadline(task: Task) -> u32
     task.deadline
 }
 
-// What is turned away, in the order of the numbers 1 to 12; a task number where the number belongs to a task.
+// Why no frame of a task qualifies as start: the lowest-numbered largest frame, the shortest length at which another frame's sum is greater, and
+// the lowest-numbered such frame.
+pub struct Reason {
+    pub frame: u32,
+    pub length: u32,
+    pub other: u32,
+}
+
+impl Reason {
+    // Where there is none to give.
+    pub fn blank() -> Reason
+        ensures { λ r. ⌜ r ≡ no-reason ⌝ }
+    {
+        Reason {
+            frame: 0,
+            length: 0,
+            other: 0,
+        }
+    }
+}
+
+// What is turned away, in the order of the numbers 1 to 12; a task number where the number belongs to a task, and of 11 the reason.
 pub enum Refusal {
     Length,
     CheckWord,
@@ -275,7 +296,7 @@ pub enum Refusal {
     Records,
     IllFormed(u32),
     Lock(u32),
-    NotMonotonic(u32),
+    NotMonotonic(u32, Reason),
     Room,
 }
 
@@ -294,7 +315,7 @@ impl Refusal {
             Refusal::Records => 8,
             Refusal::IllFormed(_) => 9,
             Refusal::Lock(_) => 10,
-            Refusal::NotMonotonic(_) => 11,
+            Refusal::NotMonotonic(_, _) => 11,
             Refusal::Room => 12,
         }
     }
@@ -306,7 +327,7 @@ impl Refusal {
             Refusal::FrameCount(i) => i,
             Refusal::IllFormed(i) => i,
             Refusal::Lock(i) => i,
-            Refusal::NotMonotonic(i) => i,
+            Refusal::NotMonotonic(i, _) => i,
             Refusal::Length => 0,
             Refusal::CheckWord => 0,
             Refusal::Version => 0,
@@ -315,6 +336,25 @@ impl Refusal {
             Refusal::TaskCount => 0,
             Refusal::Records => 0,
             Refusal::Room => 0,
+        }
+    }
+
+    pub fn reason(self) -> Reason
+        ensures { λ r. ⌜ r ≡ reason-of-refusal self ⌝ }
+    {
+        match self {
+            Refusal::NotMonotonic(_, why) => why,
+            Refusal::Length => Reason::blank(),
+            Refusal::CheckWord => Reason::blank(),
+            Refusal::Version => Reason::blank(),
+            Refusal::Policy => Reason::blank(),
+            Refusal::BitSet => Reason::blank(),
+            Refusal::TaskCount => Reason::blank(),
+            Refusal::FrameCount(_) => Reason::blank(),
+            Refusal::Records => Reason::blank(),
+            Refusal::IllFormed(_) => Reason::blank(),
+            Refusal::Lock(_) => Reason::blank(),
+            Refusal::Room => Reason::blank(),
         }
     }
 }

@@ -289,9 +289,9 @@ module _ {A X : Type 0} (refused : Refusal → X) (call : Call Refusal A X) (bef
           ∙ last (ltb (length before) (length (call .writes)))
           ∙ ap (λ (n : ℕ). cond (ltb (length before) n) (some Room) none) (size e)
 
-  says-why : (why : Refusal) → refusal-of Room call before ≡ some why → answered Room refused call before ≡ refused why
+  refused-says : (why : Refusal) → refusal-of Room call before ≡ some why → answered Room refused call before ≡ refused why
   unfolding answered
-  says-why why e = rw (e, answered)
+  refused-says why e = rw (e, answered)
 
   module _ (never : (r : Refusal) → ¬ (call .says ≡ refused r)) (apart : (q r : Refusal) → refused q ≡ refused r → q ≡ r) where
     why-said : (why : Refusal) → answered Room refused call before ≡ refused why → refusal-of Room call before ≡ some why
@@ -302,7 +302,7 @@ module _ {A X : Type 0} (refused : Refusal → X) (call : Call Refusal A X) (bef
         go (is-done d) = absurd (never why (sym (d .answer) ∙ e))
 
     exactly : (why : Refusal) → (answered Room refused call before ≡ refused why) ↔ (refusal-to (decided (call .checks)) needs (length before) ≡ some why)
-    exactly why = (λ e. sym which ∙ why-said why e, λ e. says-why why (which ∙ e))
+    exactly why = (λ e. sym which ∙ why-said why e, λ e. refused-says why (which ∙ e))
 
 -- what is decided of tasks is no refusal, and refusals are told apart
 pub not-refused : (policy : ℕ) (tasks : List Task) (r : Refusal) → ¬ (decision policy tasks ≡ refused-decision r)
@@ -368,7 +368,7 @@ module _ (sheet : List ℕ) where
   check-exactly before =
       let same = ap (λ (a : Answer). refusal-to a (4 * (most-frames * length (tasks-of sheet))) (length before)) (reading-answer sheet) in
       let is = which number-of (checking sheet) before (4 * (most-frames * length (tasks-of sheet))) (λ e. length-four _ ∙ ap (λ (n : ℕ). 4 * n) (sheet-long e)) in (
-        λ why e. says-why number-of (checking sheet) before (4 * (most-frames * length (tasks-of sheet))) (λ e. length-four _ ∙ ap (λ (n : ℕ). 4 * n) (sheet-long e)) why (is ∙ sym same ∙ e),
+        λ why e. refused-says number-of (checking sheet) before (4 * (most-frames * length (tasks-of sheet))) (λ e. length-four _ ∙ ap (λ (n : ℕ). 4 * n) (sheet-long e)) why (is ∙ sym same ∙ e),
         λ e. rw (is ∙ sym same ∙ e, answered),
       )
 

@@ -4,6 +4,7 @@ pub mod Numbers
 pub mod Memory
 pub mod Entries
 pub mod Named
+pub mod NoStart
 pub mod Promised
 pub mod RoundTrip
 pub mod Damage

@@ -1,12 +1,11 @@
--- The task that a refusal names has room in eight bits, whichever entry answers it.
+-- The task that a refusal names and the numbers of its reason have room in eight bits, whichever entry answers it.
 use mathlib.Core.List.{List}
 use mathlib.Core.Path.{_≡_, sym, subst, _∙_}
-use Prim.Native.Nat.{ℕ, _<_}
+use Prim.Native.Nat.{ℕ}
 use native.Mathlib.Omega.{arith}
-use lib.Dec.{lit<}
+use lib.Dec.{lit≤}
 use Rattle.lent.specs.Lent.{Call, answered}
 use Rattle.lent.proofs.Lent.{Told, turned-away, is-done, told, each-refusal}
-use Rattle.sheet.specs.Refusals.{task-of-refusal}
 use Rattle.sheet.specs.Writing.{writing, written}
 use Rattle.sheet.specs.declared.Task.{Task as Record}
 use Rattle.sheet.specs.declared.Refusal.{Refusal}
@@ -18,7 +17,7 @@ use Rattle.lists.specs.Faces.{reading-list, list-read, list-written, list-analy
 use Rattle.lists.specs.declared.ListRead.the-variants.{TurnedAway as not-read}
 use Rattle.lists.proofs.Faces.{written-gathered, decision-gathered}
 use Rattle.report_text.specs.Text.{reporting, report-written}
-use Rattle.workbench.proofs.Small.{Names, row-names, sheet-names}
+use Rattle.workbench.proofs.Small.{NamesBelow, Names, names-more, room-names, row-names, sheet-names}
 use Rattle.signed.proofs.Numbers.{NamesSmall}
 use Rattle.signed.proofs.Entries.{not-refused, refusals-apart}
 
@@ -29,8 +28,7 @@ module _ {A X : Type 0} (refused : Refusal → X) (call : Call Refusal A X) (mem
     where
       go : Told Room refused call memory → NamesSmall why
       go (turned-away q t) =
-          let small : task-of-refusal q < 32 = each-refusal Room refused call memory (λ r. task-of-refusal r < 32) names (lit< tt) q (t .why) in
-          let roomy : NamesSmall q = omega arith in
+          let roomy : NamesSmall q = names-more (lit≤ tt) (each-refusal Room refused call memory (NamesBelow 32) names room-names q (t .why)) in
           subst NamesSmall (apart q why (sym (t .answer) ∙ e)) roomy
       go (is-done d) = absurd (never why (sym (d .answer) ∙ e))
 

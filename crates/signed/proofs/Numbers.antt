@@ -7,7 +7,8 @@ use native.Mathlib.Omega.{arith}
 use borrow.Author.Tests.{lt-ltb, le-ltb, eq-eqb, ne-eqb}
 use lib.Dec.{eqb, lit<, lit≤}
 use Rattle.sheet.specs.Constants.{most-tasks}
-use Rattle.sheet.specs.Refusals.{number-of, task-of-refusal}
+use Rattle.sheet.specs.Refusals.{number-of, task-of-refusal, reason-of-refusal}
+use Rattle.sheet.specs.declared.Reason.{Reason}
 use Rattle.sheet.specs.declared.Refusal.{Refusal}
 use Rattle.sheet.specs.declared.Refusal.the-variants.{Length, CheckWord, Version, Policy, BitSet, TaskCount, FrameCount, Records, IllFormed, Lock, NotMonotonic, Room}
 use Rattle.sheet.specs.declared.Written.{Written}
@@ -22,9 +23,10 @@ use Rattle.analysis.specs.declared.Outcome.the-variants.{Refused as not-analyse
 use Rattle.lists.specs.declared.ListRead.{ListRead}
 use Rattle.lists.specs.declared.ListRead.the-variants.{Set}
 use Rattle.lists.specs.declared.ListRead.the-variants.{TurnedAway as not-read}
-use Rattle.workbench.specs.Numbers.{refused-number, read-number, written-number, outcome-number}
+use Rattle.workbench.specs.Numbers.{reason-number, refused-number, read-number, written-number, outcome-number}
+use Rattle.workbench.proofs.Small.{NamesBelow}
 use Rattle.signed.specs.Claims.{missed, refused, said}
-use Rattle.signed.specs.Numbers.{blocker-by, said-by, refusal-by, refused-by, list-read-by, written-by, verdict-by, analysed-by, decision-by}
+use Rattle.signed.specs.Numbers.{blocker-by, said-by, refusal-by, reason-by, refused-by, list-read-by, written-by, verdict-by, analysed-by, decision-by}
 
 -- ---- refusals
 
@@ -39,10 +41,10 @@ refusal-range (FrameCount i) = (lit≤ tt, lit≤ tt)
 refusal-range Records = (lit≤ tt, lit≤ tt)
 refusal-range (IllFormed i) = (lit≤ tt, lit≤ tt)
 refusal-range (Lock i) = (lit≤ tt, lit≤ tt)
-refusal-range (NotMonotonic i) = (lit≤ tt, lit≤ tt)
+refusal-range (NotMonotonic i why) = (lit≤ tt, lit≤ tt)
 refusal-range Room = (lit≤ tt, lit≤ tt)
 
-refusal-back : (r : Refusal) → refusal-by (number-of r) (task-of-refusal r) ≡ r
+refusal-back : (r : Refusal) → refusal-by (number-of r) (task-of-refusal r) (reason-of-refusal r) ≡ r
 unfolding refusal-by
 refusal-back Length = refl
 refusal-back CheckWord = refl
@@ -54,7 +56,7 @@ refusal-back (FrameCount i) = refl
 refusal-back Records = refl
 refusal-back (IllFormed i) = refl
 refusal-back (Lock i) = refl
-refusal-back (NotMonotonic i) = refl
+refusal-back (NotMonotonic i why) = refl
 refusal-back Room = refl
 
 -- ---- the blocker
@@ -103,22 +105,44 @@ said-back (not-analysed r) h = let (l, m) = refusal-range r in refusal-said (num
 
 -- ---- every other entry
 
--- a refusal whose task, if it names one, has room in eight bits
+-- a refusal whose task and reason, if it has them, have room in eight bits each
 abbrev pub NamesSmall : Refusal → Type 0
-NamesSmall r = task-of-refusal r < 256
+NamesSmall = NamesBelow 256
 
 -- a number with a refusal in it, and one with none
 with-refusal : (r : Refusal) → eqb (refused-number r % 256) 0 ≡ false
 with-refusal r = let range = refusal-range r in ne-eqb (refused-number r % 256) 0 (omega arith)
 
+-- a number in eight bits below another
+module _ (low high : ℕ) (h : low < 256) where
+  low-part : (low + 256 * high) % 256 ≡ low
+  low-part = omega arith
+
+  high-part : (low + 256 * high) / 256 ≡ high
+  high-part = omega arith
+
+reason-back : (why : Reason) → why .frame < 256 → why .length < 256 → why .other < 256 → reason-by (reason-number why) ≡ why
+unfolding reason-by
+reason-back why f l o =
+    let n = reason-number why in
+    let above : n / 256 ≡ why .length + 256 * why .other = high-part (why .frame) (why .length + 256 * why .other) f in
+    let length-is : n / 256 % 256 ≡ why .length = ap (λ (x : ℕ). x % 256) above ∙ low-part (why .length) (why .other) l in
+    let high : n / 65536 ≡ why .other = omega arith in
+    let other-is : n / 65536 % 256 ≡ why .other = ap (λ (x : ℕ). x % 256) high ∙ mod-eq-of-lt o in
+    rw (low-part (why .frame) (why .length + 256 * why .other) f, length-is, other-is)
+
 refused-back : (r : Refusal) → NamesSmall r → refused-by (refused-number r) ≡ r
 unfolding refused-by
 refused-back r h =
     let range = refusal-range r in
-    let low : refused-number r % 256 ≡ number-of r = omega arith in
-    let above : refused-number r / 256 ≡ task-of-refusal r = omega arith in
-    let high : refused-number r / 256 % 256 ≡ task-of-refusal r = ap (λ (x : ℕ). x % 256) above ∙ mod-eq-of-lt h in
-    ap₂ refusal-by low high ∙ refusal-back r
+    let why = reason-of-refusal r in
+    let detail = task-of-refusal r + 256 * reason-number why in
+    let number-small : number-of r < 256 = omega arith in
+    let above : refused-number r / 256 ≡ detail = high-part (number-of r) detail number-small in
+    let task-is : refused-number r / 256 % 256 ≡ task-of-refusal r = ap (λ (x : ℕ). x % 256) above ∙ low-part (task-of-refusal r) (reason-number why) (h .task) in
+    let reason-is : reason-by (refused-number r / 256 / 256) ≡ why =
+    ap (λ (x : ℕ). reason-by (x / 256)) above ∙ ap reason-by (high-part (task-of-refusal r) (reason-number why) (h .task)) ∙ reason-back why (h .frame) (h .length) (h .other) in
+    rw (low-part (number-of r) detail number-small, task-is, reason-is) (refusal-back r)
 
 module _ (m : ℕ) where
   with-none : eqb (256 * m % 256) 0 ≡ true
@@ -137,10 +161,8 @@ pub read-back : (x : ListRead) → ((policy count : ℕ) → x ≡ Set policy co
 unfolding list-read-by
 read-back (Set policy count) h names =
     let (known, few) = h policy count refl in
-    let low : (count + 256 * policy) % 256 ≡ count = omega arith in
-    let above : (count + 256 * policy) / 256 ≡ policy = omega arith in
-    let high : (count + 256 * policy) / 256 % 256 ≡ policy = ap (λ (x : ℕ). x % 256) above ∙ mod-eq-of-lt known in
-    rw (with-none (count + 256 * policy), detail (count + 256 * policy), low, high)
+    let high : (count + 256 * policy) / 256 % 256 ≡ policy = ap (λ (x : ℕ). x % 256) (high-part count policy few) ∙ mod-eq-of-lt known in
+    rw (with-none (count + 256 * policy), detail (count + 256 * policy), low-part count policy few, high)
 read-back (not-read r) h names = rw (with-refusal r) (ap not-read (refused-back r (names r refl)))
 
 miss-back : (p c : ℕ) → c ≤ 16 → verdict-by (1 + 17 * p + c) ≡ Missed p (blocker-by c)

@@ -12,7 +12,8 @@ use lib.ListN.{length, take, drop}
 use lib.Seq.{drop-at}
 use Rattle.bits.specs.Packed.{Bytes as IsBytes}
 use Rattle.check_word.specs.Change.{with-bit-inverted}
-use Rattle.theory.specs.Tasks.{Task, task-at}
+use Rattle.theory.specs.Tasks.{Task, task-at, frame-count}
+use Rattle.theory.proofs.Laws.{one-reason}
 use Rattle.lent.specs.Lent.{laid}
 use Rattle.lent.proofs.Laid.{take-laid}
 use Rattle.sheet.specs.Constants.{most-tasks, most-frames}
@@ -29,7 +30,8 @@ use Rattle.sheet.specs.declared.Written.the-variants.{TurnedAway as not-written
 use Rattle.sheet.specs.declared.Answer.the-variants.{Admitted}
 use Rattle.sheet.specs.declared.Answer.the-variants.{Refused as turned}
 use Rattle.sheet.specs.declared.Refusal.{Refusal}
-use Rattle.sheet.specs.declared.Refusal.the-variants.{CheckWord}
+use Rattle.sheet.specs.declared.Refusal.the-variants.{CheckWord, NotMonotonic}
+use Rattle.sheet.specs.declared.Reason.{Reason}
 use Rattle.sheet.proofs.Checks.{one-applies}
 use Rattle.sheet.proofs.Carried.{reading-answer}
 use Rattle.order.specs.Order.{priority-order, ordered-set}
@@ -51,13 +53,14 @@ use Rattle.report_text.specs.Report.{first-line, report}
 use Rattle.report_text.specs.Text.{report-written}
 use Rattle.report_text.specs.declared.Text.{Text}
 use Rattle.signed.specs.Calls.{ReportText, WriteReport, AnalyseSet, AnalyseSheet, AnalyseList, ReadList, WriteList, CheckSheetC, AnalyseSheetC, AnalyseListC, ReadListC, WriteListC, ReportC}
-use Rattle.signed.specs.Claims.{said, count-said, holds, missed, refused, in-numbers, in-bytes, WorstTime, Signed, refusal-to, Damaged}
+use Rattle.signed.specs.Claims.{said, count-said, holds, missed, refused, in-numbers, in-bytes, WorstTime, Signed, refusal-to, NoStart, Explained, Damaged}
 use Rattle.signed.specs.Numbers.{blocker-by, said-by, IsNumber, list-read-by, written-by, decision-by}
 use Rattle.signed.specs.Reports.{words-in, said-in, text-in, ReportSigned, ReportLeft}
 use Rattle.signed.proofs.Report.{text-back, not-refusing, refusing, report-promised, printed-signed, printed-text}
 use Rattle.signed.proofs.Numbers.{miss-said, refusal-said, said-back, written-back, read-back, decision-back}
 use Rattle.signed.proofs.Entries as entries
 use Rattle.signed.proofs.Named.{sheet-named, list-named, read-named, write-named, report-named}
+use Rattle.signed.proofs.NoStart.{list-why, sheet-why, of-input, refused-whole}
 use Rattle.signed.proofs.Promised.{promised, few-of, in-bits, counted, number-given, number-refused, outcome-number}
 use Rattle.signed.proofs.RoundTrip as trip
 use Rattle.signed.proofs.Damage as damage
@@ -200,6 +203,66 @@ report-text-turned sheet answer c =
           let (sound, whole) = entries.reports sheet a in
           not-refusing (policy-of sheet) (tasks-of sheet) sound number (ap (λ (l : List ℕ). said-in (words-in l)) (sym (text ∙ whole)) ∙ e),
     )
+
+-- ---- Demand 1: refusal 11 says why
+
+-- The task that it names has no start, and the numbers that it gives are the reason.
+pub analyse-set-says-why : (set : TaskSet) (before after : List ℕ) (answer : Decision) → length (set .tasks) ≡ most-tasks
+    → AnalyseSet set before answer after → Explained (map task-in (records-of set)) (answer .outcome)
+unfolding admission Explained
+analyse-set-says-why set before after answer sixteen c i why e =
+    let whole = refused-whole (rw (← c .answers) at (entries.set-entry set before sixteen)) (NotMonotonic i why) e in
+    list-why (set .policy) (set .«task_count») (records-of set) i why (of-input _ _ _ i why (analyse-set-turned set before after answer sixteen c _ .0 whole))
+
+pub analyse-sheet-says-why : (sheet before after : List ℕ) (answer : Decision) → AnalyseSheet sheet before answer after → Explained (tasks-of sheet) (answer .outcome)
+unfolding Explained
+analyse-sheet-says-why sheet before after answer c i why e =
+    let whole = refused-whole (rw (← c .answers) at (entries.sheet-entry sheet before)) (NotMonotonic i why) e in
+    sheet-why sheet i why (of-input _ _ _ i why (analyse-sheet-turned sheet before after answer c _ .0 whole))
+
+pub analyse-list-says-why : (policy : ℕ) (list : List Record) (before after : List ℕ) (answer : Decision)
+    → AnalyseList policy list before answer after → Explained (map task-in list) (answer .outcome)
+unfolding Explained
+analyse-list-says-why policy list before after answer c i why e =
+    let whole = refused-whole (rw (← c .answers) at (entries.list-entry policy list before)) (NotMonotonic i why) e in
+    list-why policy (length list) list i why (of-input _ _ _ i why (analyse-list-turned policy list before after answer c _ .0 whole))
+
+pub read-list-says-why : (sheet : List ℕ) (before after : List Record) (answer : ListRead) → ReadList sheet before answer after
+    → (i : ℕ) (why : Reason) → answer ≡ not-read (NotMonotonic i why) → NoStart (tasks-of sheet) i why
+read-list-says-why sheet before after answer c i why e = sheet-why sheet i why (of-input _ _ _ i why (read-list-turned sheet before after answer c _ .0 e))
+
+pub write-list-says-why : (policy : ℕ) (list : List Record) (before after : List ℕ) (answer : Written)
+    → WriteList policy list before answer after → (i : ℕ) (why : Reason) → answer ≡ not-written (NotMonotonic i why) → NoStart (map task-in list) i why
+write-list-says-why policy list before after answer c i why e =
+    list-why policy (length list) list i why (of-input _ _ _ i why (write-list-turned policy list before after answer c _ .0 e))
+
+-- The same through C, from the number alone.
+pub analyse-sheet-c-says-why : (sheet before after : List ℕ) (number : ℕ) → AnalyseSheetC sheet before number after
+    → Explained (tasks-of sheet) (decision-by number .outcome)
+analyse-sheet-c-says-why sheet before after number c =
+    analyse-sheet-says-why sheet before after (decision-by number) (analyse-sheet-c-says sheet before after number c)
+
+pub analyse-list-c-says-why : (policy : ℕ) (list : List Record) (before after : List ℕ) (number : ℕ)
+    → AnalyseListC policy list before number after → Explained (map task-in list) (decision-by number .outcome)
+analyse-list-c-says-why policy list before after number c =
+    analyse-list-says-why policy list before after (decision-by number) (analyse-list-c-says policy list before after number c)
+
+pub read-list-c-says-why : (sheet : List ℕ) (before after : List Record) (number : ℕ) → ReadListC sheet before number after
+    → (i : ℕ) (why : Reason) → list-read-by number ≡ not-read (NotMonotonic i why) → NoStart (tasks-of sheet) i why
+read-list-c-says-why sheet before after number c =
+    read-list-says-why sheet before after (list-read-by number) (read-list-c-says sheet before after number c)
+
+pub write-list-c-says-why : (policy : ℕ) (list : List Record) (before after : List ℕ) (number : ℕ)
+    → WriteListC policy list before number after → (i : ℕ) (why : Reason) → written-by number ≡ not-written (NotMonotonic i why) → NoStart (map task-in list) i why
+write-list-c-says-why policy list before after number c =
+    write-list-says-why policy list before after (written-by number) (write-list-c-says policy list before after number c)
+
+-- There is one reason: other numbers are none.
+pub one-reason-why : (tasks : List Task) (i : ℕ) (a b : Reason) → 1 ≤ frame-count (task-at tasks i) → NoStart tasks i a → NoStart tasks i b → a ≡ b
+one-reason-why tasks i a b has x y =
+    let (f, l, o) = one-reason (task-at tasks i) (x .reason has) (y .reason has) in
+    ap₂ (λ (frame length : ℕ). record { frame = frame; length = length; other = a .other }) f l
+    ∙ ap (λ (other : ℕ). record { frame = b .frame; length = b .length; other = other }) o
 
 -- ---- Demand 1: a refused call changes nothing
 

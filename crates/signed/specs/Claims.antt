@@ -10,8 +10,9 @@ use lib.ListN.{length, getD, drop}
 use Rattle.bits.specs.Packed.{Bytes, bits-of}
 use Rattle.check_word.specs.Change.{AgreeOutside}
 use Rattle.check_word.specs.Division.{word-width}
-use Rattle.theory.specs.Tasks.{Task, task-at, frame-count, deadline-of}
+use Rattle.theory.specs.Tasks.{Task, task-at, frame-count, deadline-of, Monotonic}
 use Rattle.theory.specs.Tasks.{Admitted as IsAdmitted}
+use Rattle.theory.specs.Reason.{IsReason}
 use Rattle.theory.specs.Analysis.{IsResponse, demand-of, blocker}
 use Rattle.theory.specs.Runs.{Run}
 use Rattle.sheet.specs.Constants.{most-frames}
@@ -19,8 +20,9 @@ use Rattle.sheet.specs.Refusals.{number-of}
 use Rattle.sheet.specs.declared.Answer.{Answer}
 use Rattle.sheet.specs.declared.Answer.the-variants.{Admitted}
 use Rattle.sheet.specs.declared.Answer.the-variants.{Refused as turned}
+use Rattle.sheet.specs.declared.Reason.{Reason}
 use Rattle.sheet.specs.declared.Refusal.{Refusal}
-use Rattle.sheet.specs.declared.Refusal.the-variants.{Room}
+use Rattle.sheet.specs.declared.Refusal.the-variants.{NotMonotonic, Room}
 use Rattle.order.specs.Order.{priority-order, ordered-set}
 use Rattle.order.specs.declared.Blocker.{Blocker}
 use Rattle.order.specs.declared.Blocker.the-variants.{At}
@@ -134,6 +136,21 @@ Signed policy tasks kept before after (refused number) = (1 ≤ number) × (numb
 unfoldable pub refusal-to : Answer → (needs has : ℕ) → Option Refusal
 refusal-to (turned why) needs has = some why
 refusal-to Admitted needs has = cond (ltb has needs) (some Room) none
+
+-- What refusal 11 says: task i is a task of the set, none of its frames qualifies as start, and these numbers are the reason (there is one where there
+-- is a frame, as 7 has looked).
+pub record NoStart (tasks : List Task) (i : ℕ) (why : Reason) : Type 0 where
+  pub in-set : i < length tasks
+  pub none-qualifies : ¬ Monotonic (task-at tasks i)
+  pub reason : 1 ≤ frame-count (task-at tasks i) → IsReason (task-at tasks i) (why .frame) (why .length) (why .other)
+
+-- An outcome that refuses with 11 says so of the tasks.
+unfoldable pub Explained : List Task → Outcome → Type 0
+Explained tasks outcome = (i : ℕ) (why : Reason) → outcome ≡ Refused (NotMonotonic i why) → NoStart tasks i why
+
+-- What we sign for an outcome: of the runs and of the lent memory by what it says, and of refusal 11 why.
+unfoldable pub OutcomeSigned : (policy : ℕ) (tasks : List Task) (kept : Kept) (before after : List ℕ) → Outcome → Type 0
+OutcomeSigned policy tasks kept before after outcome = Signed policy tasks kept before after (said outcome) × Explained tasks outcome
 
 -- Byte string t is s changed within sixteen neighbouring bits, as many as the check word has.
 pub record Damaged (s t : List ℕ) : Type 0 where

@@ -5,6 +5,7 @@ use Prim.Native.Nat.{ℕ, _+_, _-_, _*_, _/_, _%_, _≤_, _<_}
 use lib.Dec.{ltb, eqb}
 use lib.ListN.{getD}
 use Rattle.sheet.specs.Constants.{most-tasks}
+use Rattle.sheet.specs.declared.Reason.{Reason}
 use Rattle.sheet.specs.declared.Refusal.{Refusal}
 use Rattle.sheet.specs.declared.Refusal.the-variants.{Length, CheckWord, Version, Policy, BitSet, TaskCount, FrameCount, Records, IllFormed, Lock, NotMonotonic, Room}
 use Rattle.sheet.specs.declared.Written.{Written}
@@ -36,16 +37,21 @@ pub data IsNumber (n : ℕ) : ℕ → Type 0 where
   task-misses : (p b : ℕ) → p < n → b < n → IsNumber n (100 + 17 * p + b)
   task-misses-alone : (p : ℕ) → p < n → IsNumber n (100 + 17 * p + 16)
 
--- the refusal with a number from 1 to 12, of task i where it has one
-unfoldable pub refusal-by : ℕ → ℕ → Refusal
-refusal-by number i =
+-- the refusal with a number from 1 to 12, of task i where it has one, for this reason where it gives one
+unfoldable pub refusal-by : ℕ → ℕ → Reason → Refusal
+refusal-by number i why =
     getD
-    (Length ∷ CheckWord ∷ Version ∷ Policy ∷ BitSet ∷ TaskCount ∷ FrameCount i ∷ Records ∷ IllFormed i ∷ Lock i ∷ NotMonotonic i ∷ Room ∷ [])
+    (Length ∷ CheckWord ∷ Version ∷ Policy ∷ BitSet ∷ TaskCount ∷ FrameCount i ∷ Records ∷ IllFormed i ∷ Lock i ∷ NotMonotonic i why ∷ Room ∷ [])
     (number - 1) Room
 
--- every entry but `burrbeech_check_sheet`: the refusal's number or 0 in the low eight bits, and above them the detail; of a refusal the task in the next eight
+-- the reason in three times eight bits: the frame, the length, the other frame
+unfoldable pub reason-by : ℕ → Reason
+reason-by c = record { frame = c % 256; length = c / 256 % 256; other = c / 65536 % 256 }
+
+-- every entry but `burrbeech_check_sheet`: the refusal's number or 0 in the low eight bits, and above them the detail; of a refusal the task in the next
+-- eight, and the reason above it
 unfoldable pub refused-by : ℕ → Refusal
-refused-by c = refusal-by (c % 256) (c / 256 % 256)
+refused-by c = let detail = c / 256 in refusal-by (c % 256) (detail % 256) (reason-by (detail / 256))
 
 -- `burrbeech_read_list`: the task count in eight bits of the detail, the policy in the next eight
 unfoldable pub list-read-by : ℕ → ListRead

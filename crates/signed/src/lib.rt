@@ -5,7 +5,7 @@ ghost use lib.ListN.{take};
 ghost use Rattle.sheet.specs.Tasks.{task-in};
 ghost use Rattle.sheet.specs.Reading.{policy-of, tasks-of};
 ghost use Rattle.signed.specs.Calls.{ReadList, ReadListC, WriteList, WriteListC, AnalyseList, AnalyseListC};
-ghost use Rattle.signed.specs.Claims.{said, in-numbers, in-bytes, Signed};
+ghost use Rattle.signed.specs.Claims.{in-numbers, in-bytes, Signed, OutcomeSigned};
 ghost use Rattle.signed.specs.Numbers.{said-by, written-by, decision-by};
 ghost use Rattle.signed.specs.Reports.{words-in, said-in, text-in, ReportSigned, ReportLeft};
 use analysis::Decision;
@@ -22,7 +22,7 @@ fn analyse_set(
     tasks: [Task; Sheet::TASK_ROOM],
     times: &mut [u32],
 ) -> Decision
-    ensures { λ r. ⌜ Signed policy (map task-in (take count tasks)) in-numbers (now (times .entry)) (now (times .exit)) (said (r .outcome)) ⌝ }
+    ensures { λ r. ⌜ OutcomeSigned policy (map task-in (take count tasks)) in-numbers (now (times .entry)) (now (times .exit)) (r .outcome) ⌝ }
 {
     let set = TaskSet {
         policy,
@@ -33,7 +33,7 @@ fn analyse_set(
 }
 
 fn analyse_sheet(bytes: &[u8], times: &mut [u32]) -> Decision
-    ensures { λ r. ⌜ Signed (policy-of (now (bytes .entry))) (tasks-of (now (bytes .entry))) in-numbers (now (times .entry)) (now (times .exit)) (said (r .outcome)) ⌝ }
+    ensures { λ r. ⌜ OutcomeSigned (policy-of (now (bytes .entry))) (tasks-of (now (bytes .entry))) in-numbers (now (times .entry)) (now (times .exit)) (r .outcome) ⌝ }
 {
     analysis::analyse_sheet(bytes, times)
 }
@@ -45,7 +45,7 @@ fn check_sheet(sheet: &[u8], times: &mut [u8]) -> u32
 }
 
 fn analyse_sheet_from_c(sheet: &[u8], times: &mut [u32]) -> u64
-    ensures { λ r. ⌜ Signed (policy-of (now (sheet .entry))) (tasks-of (now (sheet .entry))) in-numbers (now (times .entry)) (now (times .exit)) (said (decision-by r .outcome)) ⌝ }
+    ensures { λ r. ⌜ OutcomeSigned (policy-of (now (sheet .entry))) (tasks-of (now (sheet .entry))) in-numbers (now (times .entry)) (now (times .exit)) (decision-by r .outcome) ⌝ }
 {
     workbench::burrbeech_analyse_sheet(sheet, times)
 }

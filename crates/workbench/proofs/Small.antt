@@ -1,9 +1,9 @@
--- The one number of an answer fits 64 bits: refusals name tasks below 32, and what else is answered is small.
+-- The one number of an answer fits 64 bits: refusals name tasks, frames and lengths below 32, and what else is answered is small.
 use mathlib.Core.Bool.{Bool}
-use mathlib.Core.List.{List, [], _∷_, map}
+use mathlib.Core.List.{List, map}
 use mathlib.Core.Option.{none, some}
-use mathlib.Core.Path.{_≡_, sym, subst, ap, _∙_}
-use Prim.Native.Nat.{ℕ, zero, suc, _+_, _≤_, _<_, _^_, min, zero-le}
+use mathlib.Core.Path.{_≡_, refl, sym, subst, ap, _∙_}
+use Prim.Native.Nat.{ℕ, _≤_, _<_, _^_, min, zero-le}
 use native.Mathlib.Decide.{decLt}
 use native.Mathlib.Nat.{le-of-lt, min-le-left, min-le-right}
 use native.Mathlib.Omega.{arith}
@@ -13,19 +13,19 @@ use Rattle.bits.specs.Packed.{bits-of}
 use Rattle.check_word.specs.Division.{body}
 use Rattle.sheet.specs.Constants.{most-tasks, version-width, policy-width, task-count-width}
 use Rattle.sheet.specs.Tasks.{task-in, records-of, blank-record}
-use Rattle.sheet.specs.Refusals.{task-of-refusal}
+use Rattle.sheet.specs.Refusals.{task-of-refusal, no-reason, reason-of-refusal}
 use Rattle.records.specs.Rows.{unpacked}
-use Rattle.sheet.specs.Layout.{header-in, tasks-in, behind-header, record-width}
+use Rattle.sheet.specs.Layout.{header-in, behind-header}
 use Rattle.lent.specs.Checks.{Check}
 use Rattle.lent.specs.Lent.{answered}
-use Rattle.lent.proofs.Checks.{Each, each-append}
+use Rattle.lent.proofs.Checks.{Each}
 use Rattle.lent.proofs.Laid.{laid-to-length, laid-most}
 use Rattle.lent.proofs.Lent.{Told, turned-away, is-done, told, each-refusal}
-use Rattle.sheet.specs.Admission.{admission, list-checks, policy-check, task-count-check, frame-count-check, frame-count-checks, task-checks}
-use Rattle.sheet.specs.Reading.{sheet-checks, layout-checks, policy-of, tasks-of}
+use Rattle.sheet.specs.Admission.{admission, list-checks, reason-of}
+use Rattle.sheet.specs.Reading.{sheet-checks, policy-of, tasks-of}
 use Rattle.sheet.specs.Writing.{writing, written}
 use Rattle.sheet.specs.declared.Refusal.{Refusal}
-use Rattle.sheet.specs.declared.Refusal.the-variants.{Room}
+use Rattle.sheet.specs.declared.Refusal.the-variants.{Length, CheckWord, Version, Policy, BitSet, TaskCount, FrameCount, Records, IllFormed, Lock, Room}
 use Rattle.sheet.proofs.Checks.{admits}
 use Rattle.sheet.proofs.Counts.{known-small}
 use Rattle.sheet.proofs.Small.{number-small}
@@ -33,7 +33,7 @@ use Rattle.sheet.specs.declared.TaskSet.{TaskSet}
 use Rattle.sheet.specs.declared.Written.{Written}
 use Rattle.sheet.specs.declared.Written.the-variants.{TurnedAway as not-written}
 use Rattle.sheet.specs.declared.Task.{Task as Record}
-use Rattle.theory.specs.Tasks.{Task}
+use Rattle.theory.specs.Tasks.{Task, task-at, frame-count}
 use Rattle.theory.specs.Analysis.{Verdict, holds, missed, verdict}
 use Rattle.order.specs.Order.{priority-order, ordered-set}
 use Rattle.order.proofs.Order.{order-permutes}
@@ -41,6 +41,8 @@ use Rattle.analysis.specs.Times.{number-at, blocker-number, verdict-number, out
 use Rattle.analysis.specs.Answers.{refused-decision, analysing, set-analysing, set-decision, sheet-analysing, sheet-decision}
 use Rattle.analysis.specs.declared.Decision.{Decision}
 use Rattle.analysis.proofs.Numbering.{number-in}
+use Rattle.theory.proofs.Laws.{reason-within}
+use Rattle.sheet.proofs.Refused.{Covers, list-each, sheet-each}
 use Rattle.sheet.proofs.Carried.{by-reading}
 use Rattle.sheet.proofs.Carried.{reading-answer as answer-read}
 use Rattle.records.proofs.Packing.{value-taken}
@@ -55,32 +57,53 @@ use Rattle.report_text.specs.Text.{reporting, report-written}
 use Rattle.report_text.proofs.Reported.{report-fits}
 use Rattle.lists.proofs.Faces.{written-gathered, decision-gathered}
 
--- ---- the tasks that refusals name
+-- ---- what refusals name
 
--- each check of a row names a task below k
+-- the task, and the numbers of the reason
+pub record NamesBelow (k : ℕ) (r : Refusal) : Type 0 where
+  pub task : task-of-refusal r < k
+  pub frame : reason-of-refusal r .frame < k
+  pub length : reason-of-refusal r .length < k
+  pub other : reason-of-refusal r .other < k
+
+pub names-more : {k m : ℕ} {r : Refusal} → k ≤ m → NamesBelow k r → NamesBelow m r
+names-more l h = record { task = omega (arith, h .task); frame = omega (arith, h .frame); length = omega (arith, h .length); other = omega (arith, h .other) }
+
+-- each refusal that a row of checks can give names numbers below k
 abbrev pub Names : ℕ → List (Check Refusal) → Type 0
-Names k = Each (λ r. task-of-refusal r < k)
+Names k = Each (NamesBelow k)
 
-frame-names : (k i : ℕ) (rs : List Record) → i + length rs ≤ k → Names k (frame-count-checks i rs)
-unfolding frame-count-checks frame-count-check
-frame-names k i [] h = tt
-frame-names k i (r ∷ rs) h = (omega arith, frame-names k (suc i) rs (omega arith))
+-- a refusal that gives no reason
+names : (k : ℕ) (r : Refusal) → task-of-refusal r < k → reason-of-refusal r ≡ no-reason → NamesBelow k r
+names k r h e = record { task = h; frame = rw e (omega arith); length = rw e (omega arith); other = rw e (omega arith) }
 
-task-names : (k i : ℕ) (ts : List Task) → i + length ts ≤ k → Names k (task-checks i ts)
-unfolding task-checks
-task-names k i [] h = tt
-task-names k i (t ∷ ts) h = (omega arith, (omega arith, (omega arith, task-names k (suc i) ts (omega arith))))
+-- at most 32 tasks get such refusals
+few-named : (tasks : List Task) → length tasks ≤ 32 → Covers (NamesBelow 32) tasks
+unfolding reason-of frame-count
+few-named tasks h =
+    record {
+      of-length = names 32 Length (lit< tt) refl;
+      of-check-word = names 32 CheckWord (lit< tt) refl;
+      of-version = names 32 Version (lit< tt) refl;
+      of-policy = names 32 Policy (lit< tt) refl;
+      of-bit-set = names 32 BitSet (lit< tt) refl;
+      of-task-count = names 32 TaskCount (lit< tt) refl;
+      of-records = names 32 Records (lit< tt) refl;
+      of-frame-count = λ i l. names 32 (FrameCount i) (omega arith) refl;
+      of-form = λ i l. names 32 (IllFormed i) (omega arith) refl;
+      of-lock = λ i l. names 32 (Lock i) (omega arith) refl;
+      of-monotony =
+          λ i l few none-starts.
+          let within = reason-within (task-at tasks i) in
+          record { task = omega arith; frame = omega (arith, within .0); length = omega (arith, within .1); other = omega (arith, within .2) };
+    }
 
-layout-names : (k i n : ℕ) (bits : List Bool) → 0 < k → i + n ≤ k → Names k (layout-checks i n bits)
-unfolding layout-checks frame-count-check
-layout-names k i zero bits p h = (p, (p, tt))
-layout-names k i (suc n) bits p h = (p, (omega arith, (p, layout-names k (suc i) n (drop (record-width bits) bits) p (omega arith))))
+-- the want of room
+pub room-names : NamesBelow 32 Room
+room-names = names 32 Room (lit< tt) refl
 
-abbrev below : Refusal → Type 0
-below r = task-of-refusal r < 32
-
-refusal-small : (r : Refusal) → task-of-refusal r < 32 → refused-number r < 2 ^ 64
-refusal-small r h = let n = number-small r in omega arith
+refusal-small : (r : Refusal) → NamesBelow 32 r → refused-number r < 2 ^ 64
+refusal-small r h = omega (arith, number-small r, h .task, h .frame, h .length, h .other)
 
 -- ---- a list written
 
@@ -102,17 +125,7 @@ module _ (policy : ℕ) (list : List Record) (room : List ℕ) where
   records-few = rw (length-take) (omega (arith, gathered-length policy list))
 
   pub row-names : Names 32 (list-checks policy (set .«task_count») (records-of set))
-  unfolding list-checks policy-check task-count-check
-  row-names =
-      let rs : List Record = records-of set in
-      let counts : List (Check Refusal) = frame-count-checks 0 rs in
-      let judged : List (Check Refusal) = task-checks 0 (map task-in rs) in (
-        lit< tt,
-        (
-          lit< tt,
-          each-append below counts judged (frame-names 32 0 rs (omega (arith, records-few))) (task-names 32 0 (map task-in rs) (omega (arith, records-few, length-map rs task-in))),
-        ),
-      )
+  row-names = list-each policy (set .«task_count») (records-of set) (few-named (map task-in (records-of set)) (omega (arith, records-few, length-map (records-of set) task-in)))
 
   pub written-small : written-number (list-written policy list room) < 2 ^ 64
   unfolding written writing admission gathered-of
@@ -126,7 +139,7 @@ module _ (policy : ℕ) (list : List Record) (room : List ℕ) where
           let size = admitted-size set (gathered-length policy list) (admits checks (d .admitted)) in
           subst (λ (w : Written). written-number w < 2 ^ 64) (sym (d .answer)) (omega arith)
       go (turned-away r t) =
-          subst (λ (w : Written). written-number w < 2 ^ 64) (sym (t .answer)) (refusal-small r (each-refusal Room not-written (writing set) room below row-names (lit< tt) r (t .why)))
+          subst (λ (w : Written). written-number w < 2 ^ 64) (sym (t .answer)) (refusal-small r (each-refusal Room not-written (writing set) room (NamesBelow 32) row-names room-names r (t .why)))
 
 -- ---- tasks analysed
 
@@ -147,7 +160,7 @@ outcome-small order holds n h few = omega arith
 outcome-small order (missed p none) n h few = let i = few p in omega arith
 outcome-small order (missed p (some b)) n h few = let i = few p in let j = few b in omega arith
 
-module _ (checks : List (Check Refusal)) (policy : ℕ) (tasks : List Task) (room : List ℕ) (names : Names 32 checks) (few : length tasks ≤ 32) where
+module _ (checks : List (Check Refusal)) (policy : ℕ) (tasks : List Task) (room : List ℕ) (all-named : Names 32 checks) (few : length tasks ≤ 32) where
   abbrev Fits : Decision → Type 0
   Fits d = decision-number d < 2 ^ 64
 
@@ -160,7 +173,7 @@ module _ (checks : List (Check Refusal)) (policy : ℕ) (tasks : List Task) (roo
           subst Fits (sym (d .answer))
           (outcome-small (priority-order policy tasks) (verdict (ordered-set policy tasks)) (length tasks) few (λ p. omega (arith, number-few policy tasks p)))
       go (turned-away r t) =
-          subst Fits (sym (t .answer)) (refusal-small r (each-refusal Room refused-decision (analysing checks policy tasks) room below names (lit< tt) r (t .why)))
+          subst Fits (sym (t .answer)) (refusal-small r (each-refusal Room refused-decision (analysing checks policy tasks) room (NamesBelow 32) all-named room-names r (t .why)))
 
 pub list-small : (policy : ℕ) (list : List Record) (room : List ℕ) → decision-number (list-analysed policy list room) < 2 ^ 64
 unfolding set-decision set-analysing gathered-of
@@ -182,34 +195,16 @@ module _ (s : List ℕ) where
   unfolding header-in unpacked
   count-small = value-taken task-count-width (drop policy-width (drop version-width bits))
 
+  tasks-few : length (tasks-of s) ≤ 32
+  unfolding tasks-of
+  tasks-few = omega (arith, count-small, length-tasks-in n (behind-header bits))
+
   pub sheet-names : Names 32 (sheet-checks s)
-  unfolding sheet-checks policy-check task-count-check
-  sheet-names =
-      let laid : List (Check Refusal) = layout-checks 0 n (behind-header bits) in
-      let judged : List (Check Refusal) = task-checks 0 (tasks-in n (behind-header bits)) in (
-        lit< tt,
-        (
-          lit< tt,
-          (
-            lit< tt,
-            (
-              lit< tt,
-              (
-                lit< tt,
-                (
-                  lit< tt,
-                  each-append below laid judged (layout-names 32 0 n (behind-header bits) (lit< tt) (omega (arith, count-small)))
-                      (task-names 32 0 (tasks-in n (behind-header bits)) (omega (arith, count-small, length-tasks-in n (behind-header bits)))),
-                ),
-              ),
-            ),
-          ),
-        ),
-      )
+  sheet-names = sheet-each s (few-named (tasks-of s) tasks-few)
 
   pub sheet-small : (room : List ℕ) → decision-number (sheet-decision s room) < 2 ^ 64
-  unfolding sheet-decision sheet-analysing tasks-of
-  sheet-small room = decided-small (sheet-checks s) (policy-of s) (tasks-of s) room sheet-names (omega (arith, count-small, length-tasks-in n (behind-header bits)))
+  unfolding sheet-decision sheet-analysing
+  sheet-small room = decided-small (sheet-checks s) (policy-of s) (tasks-of s) room sheet-names tasks-few
 
   pub read-small : (list : List Record) → read-number (list-read s list) < 2 ^ 64
   unfolding list-read reading-list
@@ -220,7 +215,7 @@ module _ (s : List ℕ) where
           let c = by-reading s (answer-read s ∙ admits (sheet-checks s) (d .admitted)) in
           subst (λ (x : ListRead). read-number x < 2 ^ 64) (sym (d .answer)) (omega (arith, known-small (policy-of s) (c .policy-known), c .few-tasks))
       go (turned-away r t) =
-          subst (λ (x : ListRead). read-number x < 2 ^ 64) (sym (t .answer)) (refusal-small r (each-refusal Room not-read (reading-list s) list below sheet-names (lit< tt) r (t .why)))
+          subst (λ (x : ListRead). read-number x < 2 ^ 64) (sym (t .answer)) (refusal-small r (each-refusal Room not-read (reading-list s) list (NamesBelow 32) sheet-names room-names r (t .why)))
 
 -- ---- a report
 
@@ -231,4 +226,4 @@ report-small s room = go (told Room not-written (reporting s) room)
     go : Told Room not-written (reporting s) room → written-number (report-written s room) < 2 ^ 64
     go (is-done d) = subst (λ (w : Written). written-number w < 2 ^ 64) (sym (d .answer)) (omega (arith, report-fits s))
     go (turned-away r t) =
-        subst (λ (w : Written). written-number w < 2 ^ 64) (sym (t .answer)) (refusal-small r (each-refusal Room not-written (reporting s) room below tt (lit< tt) r (t .why)))
+        subst (λ (w : Written). written-number w < 2 ^ 64) (sym (t .answer)) (refusal-small r (each-refusal Room not-written (reporting s) room (NamesBelow 32) tt room-names r (t .why)))

@@ -1,6 +1,7 @@
 -- The numbers that C gets from every entry but `burrbeech_check_sheet`: in the low eight bits 0 or the refusal's number, above them the detail.
 use Prim.Native.Nat.{ℕ, _+_, _*_}
-use Rattle.sheet.specs.Refusals.{number-of, task-of-refusal}
+use Rattle.sheet.specs.Refusals.{number-of, task-of-refusal, reason-of-refusal}
+use Rattle.sheet.specs.declared.Reason.{Reason}
 use Rattle.sheet.specs.declared.Refusal.{Refusal}
 use Rattle.sheet.specs.declared.Written.{Written}
 use Rattle.sheet.specs.declared.Written.the-variants.{Bytes, TurnedAway}
@@ -23,9 +24,13 @@ two-bytes = byte * byte
 abbrev pub with-detail : ℕ → ℕ
 with-detail detail = byte * detail
 
--- a refusal: its number, and the task that it names
+-- a reason, in eight bits each: the frame, above it the length, above it the other frame
+abbrev pub reason-number : Reason → ℕ
+reason-number why = why .frame + byte * (why .length + byte * why .other)
+
+-- a refusal: its number, above it the task that it names, above it the reason that it gives
 abbrev pub refused-number : Refusal → ℕ
-refused-number r = number-of r + byte * task-of-refusal r
+refused-number r = number-of r + byte * (task-of-refusal r + byte * reason-number (reason-of-refusal r))
 
 -- the task count that was read, and above it the policy
 abbrev pub read-number : ListRead → ℕ

@@ -10,12 +10,13 @@ ghost use Rattle.analysis.specs.Findings.{times-by-number};
 ghost use Rattle.analysis.specs.Inside.Numbered.{Numbered};
 ghost use Rattle.lists.specs.Faces.{list-read, list-filled, list-written, list-left, list-analysed, list-times};
 ghost use Rattle.report_text.specs.Text.{report-written, report-left};
-ghost use Rattle.workbench.specs.Numbers.{refused-number, read-number, written-number, decision-number};
+ghost use Rattle.workbench.specs.Numbers.{reason-number, refused-number, read-number, written-number, decision-number};
 ghost use Rattle.workbench.specs.Entry.{time-size, task-size, four-bytes, entry-number, entry-left};
 use analysis::Analysis;
 use analysis::Decision;
 use analysis::Outcome;
 use lists::ListRead;
+use sheet::Reason;
 use sheet::Refusal;
 use sheet::Sheet;
 use sheet::Task;
@@ -80,10 +81,17 @@ const BYTE: u64 = 256;
 
 const TWO_BYTES: u64 = BYTE * BYTE;
 
+fn reason_number(why: Reason) -> u64
+    ensures { λ r. ⌜ r ≡ reason-number why ⌝ }
+{
+    why.frame as u64 + BYTE * (why.length as u64 + BYTE * why.other as u64)
+}
+
 fn refused_number(why: Refusal) -> u64
+    requires { ⌜ refused-number why < 2 ^ 64 ⌝ }
     ensures { λ r. ⌜ r ≡ refused-number why ⌝ }
 {
-    why.number() as u64 + BYTE * why.task() as u64
+    why.number() as u64 + BYTE * (why.task() as u64 + BYTE * reason_number(why.reason()))
 }
 
 fn read_number(read: ListRead) -> u64

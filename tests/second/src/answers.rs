@@ -2,13 +2,18 @@
 use crate::analysis::Verdict;
 use crate::refusal::Refusal;
 
-/// A refusal with the task that it names, or what the call answers by its detail.
+/// A refusal with its detail, or what the call answers by its own.
 pub fn number<T>(answer: Result<T, Refusal>, detail: impl FnOnce(T) -> u64) -> u64 {
     answer.map_or_else(refused, |t| detail(t) << 8)
 }
 
+/// The task in bits 0 to 7 of the detail; of 11 also the frame in bits 8 to 15, the length in 16 to 23, the other frame in 24 to 31.
 pub fn refused(refusal: Refusal) -> u64 {
-    u64::from(refusal.number()) + 256 * refusal.task() as u64
+    let detail = match refusal {
+        Refusal::NotMonotonic(task, why) => task | why.frame << 8 | why.length << 16 | why.other << 24,
+        _ => refusal.task(),
+    };
+    u64::from(refusal.number()) + 256 * detail as u64
 }
 
 /// The task count in bits 0 to 7, the policy in bits 8 to 15.

@@ -1,4 +1,5 @@
 //! The sets worked by hand, cases A to M.
+use crate::refusal::{NoStart, Refusal};
 use crate::sheet;
 use crate::task::{Set, Task};
 
@@ -13,10 +14,7 @@ pub enum Expected {
         blocker: Option<usize>,
         times: Vec<Vec<u32>>,
     },
-    Refused {
-        number: u32,
-        task: usize,
-    },
+    Refused(Refusal),
 }
 
 #[derive(Clone, Debug)]
@@ -48,8 +46,8 @@ fn missed(name: &'static str, policy: u32, tasks: &[Task], missed: (usize, Optio
     Case { expected, ..holds(name, policy, tasks, &[]) }
 }
 
-fn refused(name: &'static str, policy: u32, tasks: &[Task], number: u32) -> Case {
-    Case { expected: Expected::Refused { number, task: 0 }, ..holds(name, policy, tasks, &[]) }
+fn refused(name: &'static str, policy: u32, tasks: &[Task], refusal: Refusal) -> Case {
+    Case { expected: Expected::Refused(refusal), ..holds(name, policy, tasks, &[]) }
 }
 
 /// F, G and H differ in the lock of task 1.
@@ -59,6 +57,7 @@ fn locked(lock: u32) -> [Task; 2] {
 
 pub fn cases() -> Vec<Case> {
     let l = [task(10, 5, 0, &[1]), task(8, 5, 0, &[1])];
+    let why = NoStart { frame: 2, length: 2, other: 1 };
     vec![
         holds("a", 1, &[plain(100, &[40]), plain(150, &[40]), plain(350, &[100])], &[&[40], &[80], &[300]]),
         holds("b", 1, &[plain(3, &[2, 1]), plain(7, &[3])], &[&[2, 1], &[6]]),
@@ -68,7 +67,7 @@ pub fn cases() -> Vec<Case> {
         holds("f", 0, &locked(3), &[&[4], &[7]]),
         missed("g", 0, &locked(4), (0, Some(1)), &[&[], &[7]]),
         holds("h", 0, &locked(1), &[&[2], &[7]]),
-        refused("i", 0, &[plain(10, &[1, 2, 3])], 11),
+        refused("i", 0, &[plain(10, &[1, 2, 3])], Refusal::NotMonotonic(0, why)),
         holds("j", 0, &[plain(10, &[3, 2, 1, 5])], &[&[3, 2, 1, 5]]),
         holds("k", 0, &[plain(4, &[3, 1, 3, 2]), plain(20, &[2])], &[&[3, 1, 3, 2], &[7]]),
         Case { order: vec![1, 0], ..holds("l1", 1, &l, &[&[2], &[1]]) },

@@ -1,7 +1,7 @@
 //! Inputs for comparisons: admitted sets of every size, and sheets and lists damaged in every way of the refusal table.
 use crate::check_word;
 use crate::random::Random;
-use crate::refusal::Refusal;
+use crate::refusal::{NoStart, Refusal};
 use crate::sheet;
 use crate::task::{admit_tasks, start_frame, Record, Set, Task, MOST_FRAMES, MOST_TASKS, MOST_TICKS};
 
@@ -101,7 +101,7 @@ fn finished(random: &mut Random, period: u32, frames: Vec<u32>, (most_early, mos
 pub fn arranged(random: &mut Random, mut frames: Vec<u32>) -> Vec<u32> {
     for _ in 0..6 {
         shuffle(random, &mut frames);
-        if start_frame(&frames).is_some() {
+        if start_frame(&frames).is_ok() {
             return frames;
         }
     }
@@ -109,6 +109,38 @@ pub fn arranged(random: &mut Random, mut frames: Vec<u32>) -> Vec<u32> {
     let by = random.below(frames.len() as u64) as usize;
     frames.rotate_left(by);
     frames
+}
+
+/// Every frame list of so many times from 1 to `greatest`.
+pub fn frame_lists(count: usize, greatest: u32) -> impl Iterator<Item = Vec<u32>> {
+    let digit = move |n: u32, place: usize| n / greatest.pow(place as u32) % greatest;
+    (0..greatest.pow(count as u32)).map(move |n| (0..count).map(|place| 1 + digit(n, place)).collect())
+}
+
+/// Any frame times; or few different ones, small or up to the limit, some lowered by a little, so that sums tie or nearly do.
+pub fn frame_list(random: &mut Random) -> Vec<u32> {
+    let count = if one_in(random, 2) { MOST_FRAMES as u32 } else { between(random, 1, MOST_FRAMES as u32) };
+    let different = [3, 5, MOST_TICKS][random.below(3) as usize];
+    let scale = [1, MOST_TICKS / different][random.below(2) as usize];
+    let lowered = [0, scale / 16][random.below(2) as usize];
+    (0..count).map(|_| scale * between(random, 1, different) - between(random, 0, lowered)).collect()
+}
+
+/// 1 to 16 tasks with such lists, all but about one of them in an order with a start frame.
+pub fn set_of_lists(random: &mut Random) -> Set {
+    let tasks = between(random, 1, MOST_TASKS as u32);
+    let task = |random: &mut Random| {
+        let frames = frame_list(random);
+        let largest = *frames.iter().max().expect("no frame");
+        let period = between(random, largest, (64 * largest).min(MOST_TICKS));
+        let good = finished(random, period, frames.clone(), (1_000, MOST_TICKS));
+        if one_in(random, u64::from(tasks)) {
+            Task { frames, ..good }
+        } else {
+            good
+        }
+    };
+    Set { policy: random.below(3) as u32, tasks: (0..tasks).map(|_| task(random)).collect() }
 }
 
 fn shuffle<T>(random: &mut Random, list: &mut [T]) {
@@ -412,7 +444,8 @@ pub fn wrong_sets(random: &mut Random, set: &Set) -> Vec<(&'static str, Set, Ref
         all.extend(wrong_frames(good));
         let mut all: Vec<_> = all.into_iter().map(|(way, task)| (way, task, Refusal::NotWellFormed(number))).collect();
         all.extend(wrong_locks(good).into_iter().map(|(way, task)| (way, task, Refusal::Lock(number))));
-        all.push(("not monotonic", not_monotonic(random, good), Refusal::NotMonotonic(number)));
+        let (task, why) = not_monotonic(random, good);
+        all.push(("not monotonic", task, Refusal::NotMonotonic(number, why)));
         for (way, task, refusal) in all {
             let mut set = set.clone();
             set.tasks[number] = task;
@@ -467,15 +500,15 @@ fn wrong_locks(good: &Task) -> Vec<(&'static str, Task)> {
     above.map(|(way, lock)| (way, Task { lock, ..good.clone() })).collect()
 }
 
-/// The task with a frame list that has no start; a deadline below 3 is too short for a list like that and is raised.
-pub fn not_monotonic(random: &mut Random, good: &Task) -> Task {
+/// The task with a frame list that has no start, and why; a deadline below 3 is too short for a list like that and is raised.
+pub fn not_monotonic(random: &mut Random, good: &Task) -> (Task, NoStart) {
     let (deadline, period) = (good.deadline.max(3), good.period.max(3));
     loop {
         let count = between(random, 3, MOST_FRAMES as u32);
         let frames: Vec<u32> = (0..count).map(|_| between(random, 1, deadline)).collect();
-        if start_frame(&frames).is_none() {
+        if let Err(why) = start_frame(&frames) {
             let lock = good.lock.min(*frames.iter().max().expect("no frame"));
-            return Task { period, deadline, lock, frames };
+            return (Task { period, deadline, lock, frames }, why);
         }
     }
 }

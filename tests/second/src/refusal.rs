@@ -1,6 +1,17 @@
 //! What is turned away, by number.
 
-/// The scope's table of refusals, top to bottom; a task number goes with 7, 9, 10 and 11.
+/// Why a frame list has no start.
+#[derive(Clone, Copy, Debug, PartialEq, Eq, Hash)]
+pub struct NoStart {
+    /// The lowest-numbered largest frame.
+    pub frame: usize,
+    /// The shortest length at which another frame's sum is greater.
+    pub length: usize,
+    /// The lowest-numbered such frame.
+    pub other: usize,
+}
+
+/// The scope's table of refusals, top to bottom; a task number goes with 7, 9, 10 and 11, and with 11 its reason.
 #[derive(Clone, Copy, Debug, PartialEq, Eq, Hash)]
 pub enum Refusal {
     Length,
@@ -13,7 +24,7 @@ pub enum Refusal {
     Records,
     NotWellFormed(usize),
     Lock(usize),
-    NotMonotonic(usize),
+    NotMonotonic(usize, NoStart),
     Room,
 }
 
@@ -30,7 +41,7 @@ impl Refusal {
             Refusal::Records => 8,
             Refusal::NotWellFormed(_) => 9,
             Refusal::Lock(_) => 10,
-            Refusal::NotMonotonic(_) => 11,
+            Refusal::NotMonotonic(..) => 11,
             Refusal::Room => 12,
         }
     }
@@ -38,7 +49,7 @@ impl Refusal {
     /// The task number that is returned beside the refusal: 0 where the scope names none.
     pub fn task(self) -> usize {
         match self {
-            Refusal::FrameCount(i) | Refusal::NotWellFormed(i) | Refusal::Lock(i) | Refusal::NotMonotonic(i) => i,
+            Refusal::FrameCount(i) | Refusal::NotWellFormed(i) | Refusal::Lock(i) | Refusal::NotMonotonic(i, _) => i,
             _ => 0,
         }
     }

@@ -1,5 +1,5 @@
 //! A task and a set, the workbench's records, and what makes a list of them admitted.
-use crate::refusal::Refusal;
+use crate::refusal::{NoStart, Refusal};
 
 pub const MOST_TASKS: usize = 16;
 pub const MOST_FRAMES: usize = 8;
@@ -57,7 +57,7 @@ impl Task {
         if self.lock > self.largest_frame() {
             return Err(Refusal::Lock(number));
         }
-        start_frame(&self.frames).map(|_| ()).ok_or(Refusal::NotMonotonic(number))
+        start_frame(&self.frames).map(|_| ()).map_err(|why| Refusal::NotMonotonic(number, why))
     }
 
     /// The record with 0 in the slots that are not in use.
@@ -87,11 +87,24 @@ pub fn sum_from(frames: &[u32], from: usize, length: usize) -> u64 {
     (from..from + length).map(|i| u64::from(frames[i % frames.len()])).sum()
 }
 
-/// The lowest-numbered frame whose sums are, at each length, at least those from any other frame.
-pub fn start_frame(frames: &[u32]) -> Option<usize> {
+/// The lowest-numbered frame whose sums are, at each length, at least those from any other frame; or why there is none.
+pub fn start_frame(frames: &[u32]) -> Result<usize, NoStart> {
     let all = 0..frames.len();
     let beats = |s: usize, other: usize| all.clone().all(|j| sum_from(frames, s, j + 1) >= sum_from(frames, other, j + 1));
-    all.clone().find(|&s| all.clone().all(|other| beats(s, other)))
+    all.clone().find(|&s| all.clone().all(|other| beats(s, other))).ok_or_else(|| no_start(frames))
+}
+
+/// Of the lowest-numbered largest frame: the shortest length at which another's sum is greater, and the lowest-numbered such frame.
+fn no_start(frames: &[u32]) -> NoStart {
+    let m = frames.len();
+    let frame = (0..m).find(|&s| frames.iter().all(|&c| c <= frames[s])).expect("no frame");
+    let greater = |length: usize, other: usize| sum_from(frames, other, length) > sum_from(frames, frame, length);
+    for length in 1..=m {
+        if let Some(other) = (0..m).find(|&other| greater(length, other)) {
+            return NoStart { frame, length, other };
+        }
+    }
+    panic!("frame {frame} qualifies");
 }
 
 /// 9, 10 and 11, task by task.

@@ -1,10 +1,10 @@
 //! The second program on the sets worked by hand, cases A to M, and on what an inspector has seen.
 use second::analysis::{self, analyse, Verdict};
 use second::cases::{cases, Case, Expected};
-use second::refusal::Refusal;
+use second::refusal::{NoStart, Refusal};
 use second::report::report;
 use second::task::{admit_list, start_frame, Record, Set, Task, MOST_FRAMES};
-use second::{check_word, sheet};
+use second::{answers, check_word, sheet};
 
 fn case(name: &str) -> Case {
     cases().into_iter().find(|case| case.name == name).unwrap()
@@ -30,9 +30,8 @@ fn compare(case: &Case) {
     let mut raw = vec![9; 32 * n];
     let code = analysis::check_sheet(&bytes, &mut raw);
     let (verdict, expected) = match &case.expected {
-        Expected::Refused { number, task } => {
-            let refusal = by_sheet.unwrap_err();
-            assert_eq!((refusal.number(), refusal.task(), code), (*number, *task, *number), "{}", case.name);
+        Expected::Refused(refusal) => {
+            assert_eq!((by_sheet, code), (Err(*refusal), refusal.number()), "{}", case.name);
             assert!(times.iter().all(|&t| t == 7) && raw.iter().all(|&b| b == 9));
             return;
         }
@@ -80,10 +79,25 @@ fn blockers_by_priority_order() {
 
 #[test]
 fn start_frames() {
-    assert_eq!(start_frame(&frames_of("i")), None);
-    assert_eq!(start_frame(&frames_of("j")), Some(3));
-    assert_eq!(start_frame(&frames_of("k")), Some(2));
-    assert_eq!(start_frame(&[4, 4]), Some(0));
+    assert_eq!(start_frame(&frames_of("j")), Ok(3));
+    assert_eq!(start_frame(&frames_of("k")), Ok(2));
+    assert_eq!(start_frame(&[4, 4]), Ok(0));
+}
+
+/// Worked by hand. The second goes round; in the last the sums of three frames tie.
+#[test]
+fn why_there_is_no_start() {
+    let why = |frames: &[u32]| start_frame(frames).map_err(|why| (why.frame, why.length, why.other));
+    assert_eq!(why(&frames_of("i")), Err((2, 2, 1)));
+    assert_eq!(why(&[3, 1, 2]), Err((0, 2, 2)));
+    assert_eq!(why(&[2, 1, 1, 2, 1, 3]), Err((5, 4, 3)));
+}
+
+#[test]
+fn refusals_in_one_number() {
+    assert_eq!(answers::refused(Refusal::NotMonotonic(3, NoStart { frame: 5, length: 7, other: 6 })), 0x06_0705_030B);
+    assert_eq!(answers::refused(Refusal::Lock(15)), 0x0F0A);
+    assert_eq!(answers::refused(Refusal::Room), 12);
 }
 
 #[test]

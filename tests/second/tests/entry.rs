@@ -195,7 +195,7 @@ fn cases_a_to_m() {
         let mut buffer = [0xEE; TASK_BYTES * 3 + 1];
         let answer = proved::check_sheet(&sheet::write(&case.set), &mut buffer);
         let (number, times) = match case.expected {
-            Expected::Refused { number, .. } => (number, vec![]),
+            Expected::Refused(refusal) => (refusal.number(), vec![]),
             Expected::Holds(times) => (0, times),
             Expected::Missed { task, blocker, times } => (100 + 17 * task as u32 + blocker.unwrap_or(16) as u32, times),
         };

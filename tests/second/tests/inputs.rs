@@ -3,8 +3,8 @@ use second::analysis::{self, analyse, Verdict};
 use second::generate::{self, Draft};
 use second::jobs::Equation;
 use second::random::Random;
-use second::refusal::Refusal;
-use second::task::{admit_list, Record, Set, MOST_FRAMES, MOST_TASKS};
+use second::refusal::{NoStart, Refusal};
+use second::task::{admit_list, start_frame, Record, Set, MOST_FRAMES, MOST_TASKS};
 use second::{bits, check_word, report, sheet};
 use std::collections::{BTreeMap, BTreeSet};
 
@@ -44,6 +44,46 @@ fn damaged_lists_are_refused_as_meant() {
     }
     println!("damaged lists by refusal: {by_number:?}, {} ways", ways.len());
     assert!([4, 6, 7, 9, 10, 11].iter().all(|n| by_number.contains_key(n)));
+}
+
+/// Whether so many frames from k on, going round, take more than as many from s on.
+fn greater(frames: &[u32], k: usize, s: usize, length: usize) -> bool {
+    let sum = |from: usize| frames.iter().cycle().skip(from).take(length).map(|&c| u64::from(c)).sum::<u64>();
+    sum(k) > sum(s)
+}
+
+fn qualifies(frames: &[u32], s: usize) -> bool {
+    (1..=frames.len()).all(|length| (0..frames.len()).all(|k| !greater(frames, k, s, length)))
+}
+
+/// The first largest frame; another frame's sum is greater, at no shorter length that of any, at this length that of no lower one.
+fn is_true(frames: &[u32], NoStart { frame, length, other }: NoStart) -> bool {
+    let none_greater = |n: usize, mut among: std::ops::Range<usize>| among.all(|k| !greater(frames, k, frame, n));
+    frames.iter().position(|c| c == frames.iter().max().unwrap()) == Some(frame)
+        && greater(frames, other, frame, length)
+        && (1..length).all(|n| none_greater(n, 0..frames.len()))
+        && none_greater(length, 0..other)
+}
+
+/// A start is the first frame that qualifies; a true reason is there exactly where none does.
+#[test]
+fn a_start_or_why_there_is_none() {
+    let mut random = Random::new(23);
+    let few = (1..=MOST_FRAMES).flat_map(|count| generate::frame_lists(count, 3));
+    let (mut starts, mut lengths) = (BTreeMap::new(), BTreeMap::new());
+    for frames in few.chain((0..20_000).map(|_| generate::frame_list(&mut random))) {
+        let answer = start_frame(&frames);
+        assert_eq!(answer.ok(), (0..frames.len()).find(|&s| qualifies(&frames, s)), "{frames:?}");
+        match answer {
+            Ok(start) => *starts.entry(start).or_insert(0u64) += 1,
+            Err(why) => {
+                assert!(is_true(&frames, why) && (2..frames.len()).contains(&why.length), "{frames:?}: {why:?}");
+                *lengths.entry(why.length).or_insert(0u64) += 1;
+            }
+        }
+    }
+    println!("frame lists by start: {starts:?}; without one, by the length of the reason: {lengths:?}");
+    assert!((0..MOST_FRAMES).all(|start| starts[&start] >= 100) && (2..MOST_FRAMES).all(|length| lengths[&length] >= 100));
 }
 
 /// The scope's order where two things are wrong.

@@ -110,7 +110,7 @@ fn cases_a_to_m() {
         let mut numbers = [0xEEEE_EEEE; MOST_FRAMES * 3 + 1];
         let answer = proved::analyse_sheet(&sheet::write(&case.set), &mut numbers);
         let (expected, times) = match case.expected {
-            Expected::Refused { number, task } => (u64::from(number) + 256 * task as u64, vec![]),
+            Expected::Refused(refusal) => (answers::refused(refusal), vec![]),
             Expected::Holds(times) => (answers::analysed(Verdict::Holds, times.len()) << 8, times),
             Expected::Missed { task, blocker, times } => (answers::analysed(Verdict::Missed { task, blocker }, times.len()) << 8, times),
         };

@@ -32,8 +32,8 @@ start-frame-requires c κs = search needs
 enum-known-start : tie.Need-enum-known-start
 enum-known-start c = search needs
 
-enum-told : tie.Need-enum-told
-enum-told c = search needs
+enum-known-why : tie.Need-enum-known-why
+enum-known-why c = search needs
 
 returns-3 : tie.Need-returns-3
 unfolding task-in
@@ -45,9 +45,9 @@ returns-3 c =
 returns-4 : tie.Need-returns-4
 unfolding task-in
 returns-4 c =
-    let at = c .before .before in
+    let at = c .before .before .before in
     let tested = at .before in
-    no-start _ _ (formed (tested .before)) _ (tested .before .before .before .largest-time .ensures) (not-false _ (tested .if2 .left)) (sym (at .start-frame .ensures) ∙ c .enum-told .given .1)
+    no-start _ _ (formed (tested .before)) _ (tested .before .before .before .largest-time .ensures) (not-false _ (tested .if2 .left)) _ (sym (at .start-frame .ensures) ∙ c .before .why .given .1)
 
 pub task-answer-spec : {M : Type 1} → statement M
 task-answer-spec =
@@ -59,6 +59,6 @@ task-answer-spec =
     returns-2
     start-frame-requires
     enum-known-start
-    enum-told
+    enum-known-why
     returns-3
     returns-4)

@@ -1,5 +1,6 @@
 -- `analyse_sheet` keeps what is signed.
-use Rattle.signed.proofs.Signed.{analyse-sheet-signed}
+use Rattle.signed.specs.Claims.{OutcomeSigned}
+use Rattle.signed.proofs.Signed.{analyse-sheet-signed, analyse-sheet-says-why}
 use borrow.Author.Needs.{needs}
 use Rattle.signed.proofs.analyse_sheet.Statement.{statement}
 use Rattle.signed.proofs.analyse_sheet.Tie as tie
@@ -11,7 +12,10 @@ same-length : tie.Need-same-length
 same-length c = search needs
 
 returns : tie.Need-returns
-returns c = let e = c .before .before .analyse-sheet .ensures in analyse-sheet-signed _ _ _ _ (record { answers = e .0; leaves = e .1 })
+unfolding OutcomeSigned
+returns c =
+    let e = c .before .before .analyse-sheet .ensures in
+    (analyse-sheet-signed _ _ _ _ (record { answers = e .0; leaves = e .1 }), analyse-sheet-says-why _ _ _ _ (record { answers = e .0; leaves = e .1 }))
 
 pub analyse-sheet-spec : {M : Type 1} → statement M
 analyse-sheet-spec = tie.close (tie.spec analyse-sheet-requires same-length returns)

@@ -1,6 +1,7 @@
 -- `decision_number` meets its contract.
 use mathlib.Core.Path.{sym, ap, _∙_}
 use Prim.Native.Nat.{ℕ, _+_, _*_}
+use native.Mathlib.Omega.{arith}
 use Rattle.analysis.specs.Answers.{blockers}
 use Rattle.analysis.specs.declared.Outcome.{Outcome}
 use Rattle.workbench.specs.Numbers.{two-bytes, with-detail, outcome-number}
@@ -51,7 +52,9 @@ enum-known-outcome-2 : tie.Need-enum-known-outcome-2
 enum-known-outcome-2 c = search needs
 
 refused-number-requires : tie.Need-refused-number-requires
-refused-number-requires c κs = search needs
+refused-number-requires c κs =
+    let n = c .before .before .before .before .args .decision .«task_count» in
+    omega (arith, ap (λ (o : Outcome). outcome-number o n) (c .before .outcome2 .given .1))
 
 returns : tie.Need-returns
 returns c = sym (ap (λ (o : Outcome). outcome-number o (c .before .before .before .args .decision .«task_count»)) (c .enum-told .given .1))

@@ -1,5 +1,6 @@
 -- `read_number` meets its contract.
 use mathlib.Core.Path.{sym, ap, _∙_}
+use native.Mathlib.Omega.{arith}
 use Rattle.workbench.specs.Numbers.{read-number}
 use borrow.Author.Needs.{needs}
 use Rattle.workbench.proofs.read_number.Statement.{statement}
@@ -27,7 +28,7 @@ enum-known-read-2 : tie.Need-enum-known-read-2
 enum-known-read-2 c = search needs
 
 refused-number-requires : tie.Need-refused-number-requires
-refused-number-requires c κs = search needs
+refused-number-requires c κs = omega (arith, ap read-number (c .before .read2 .given .1))
 
 returns : tie.Need-returns
 returns c = sym (ap read-number (c .before .read .given .1))

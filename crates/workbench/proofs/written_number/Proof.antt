@@ -16,7 +16,7 @@ enum-known-written-2 : tie.Need-enum-known-written-2
 enum-known-written-2 c = search needs
 
 refused-number-requires : tie.Need-refused-number-requires
-refused-number-requires c κs = search needs
+refused-number-requires c κs = omega (arith, ap written-number (c .before .written2 .given .1))
 
 returns : tie.Need-returns
 returns c = sym (ap written-number (c .before .written .given .1))
