@@ -126,7 +126,7 @@ fn every_list_of_few_times() {
     }
     println!("{lists} lists, {} comparisons; start not the first largest frame: {not_the_first_largest}, told {told}", entries.total());
     reached.finish("every list of times 1 to 4", 1_000);
-    // all that there are: for every other the inequalities between the sums contradict each other
+    // lists with times up to 8 have no others
     assert_eq!(reached.reasons.len(), 364);
     assert!(lists == 87_380 && not_the_first_largest >= 5_000 && told >= 5_000);
 }
