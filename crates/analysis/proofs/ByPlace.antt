@@ -24,16 +24,16 @@ use Rattle.analysis.specs.Inside.Steps.{as-written, is-there, times-to, 
 use Rattle.analysis.specs.declared.Finding.{Finding}
 use Rattle.sheet.proofs.Filled.{filled, filled-more, all-filled}
 
-frame-in : (t : Task) (k : ℕ) → k < frame-count t → frame t k ≡ getD (t .frames) k 0
+pub frame-in : (t : Task) (k : ℕ) → k < frame-count t → frame t k ≡ getD (t .frames) k 0
 unfolding frame
 frame-in t k h = rw (mod-eq-of-lt h)
 
 -- the time of a frame of the task at a place, by the frame's length
 module _ (set : List Task) (p : ℕ) where
-  abbrev time : ℕ → Option ℕ
+  abbrev pub time : ℕ → Option ℕ
   time c = response (demand (blocking (lower set p)) c (higher set p)) (shortest-deadline (task-at set p))
 
-  response-by : (k : ℕ) → response-of set p k ≡ time (frame (task-at set p) k)
+  pub response-by : (k : ℕ) → response-of set p k ≡ time (frame (task-at set p) k)
   unfolding response-of demand-of deadline-of shortest-deadline
   response-by k = refl
 
@@ -44,7 +44,7 @@ module _ (set : List Task) (p : ℕ) where
       rw (drop-cons (task-at set p .frames) k 0 (omega arith))
       (ap₂ _∷_ (ap (λ (r : Option ℕ). Option·getD r 0) (response-by k ∙ ap time (frame-in (task-at set p) k (omega arith)))) (times-by (suc k) n (omega arith)))
 
-  passes-by : 1 ≤ frame-count (task-at set p) → passes set p ≡ found (time (largest (task-at set p .frames)))
+  pub passes-by : 1 ≤ frame-count (task-at set p) → passes set p ≡ found (time (largest (task-at set p .frames)))
   unfolding passes
   passes-by h = ap found (response-by (largest-frame (task-at set p)) ∙ ap time (largest-is (task-at set p) h .largest-time))
 
@@ -84,7 +84,7 @@ written-answer : (o : Option ℕ) → as-written (answer o) ≡ Option·getD o 0
 written-answer none = refl
 written-answer (some t) = refl
 
-there-answer : (o : Option ℕ) → is-there (answer o) ≡ found o
+pub there-answer : (o : Option ℕ) → is-there (answer o) ≡ found o
 unfolding found
 there-answer none = refl
 there-answer (some t) = refl

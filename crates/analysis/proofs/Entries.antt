@@ -171,7 +171,7 @@ module _ (s : TaskSet) (room : length (s .tasks) ≡ most-tasks) (e : admission 
   few-tasks : length tasks ≤ most-tasks
   few-tasks = by-admission s room e .few-tasks
 
-  numbers-are : numbers-of (ordered s) ≡ priority-order (s .policy) tasks
+  pub numbers-are : numbers-of (ordered s) ≡ priority-order (s .policy) tasks
   unfolding numbers-of ordered order-of
   numbers-are = take-at (priority-order (s .policy) tasks) _ (length (priority-order (s .policy) tasks)) refl
 
@@ -215,6 +215,11 @@ module _ (j : Judged) (a : Answer) (s : TaskSet) (e : j ≡ judged a s) where
         admits = λ t. let x = judged-tells j a s Admitted e t in rw (e, x) (h x);
         shapes-are = λ t. rw (e, judged-tells j a s Admitted e t) refl;
       }
+
+  -- where it is admitted it is the set, with the shapes of its tasks
+  pub judged-is : a ≡ Admitted → (j .set ≡ s) × (j .shapes ≡ shapes-of (map task-in (records-of s)))
+  unfolding judged
+  judged-is h = rw (e, h) (refl, refl)
 
   -- and its analysis is that of the set
   pub of-judged : analysis-by (j .answer) (j .set .policy) (map task-in (records-of (j .set))) ≡ analysis-by a (s .policy) (map task-in (records-of s))

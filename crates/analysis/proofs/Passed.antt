@@ -18,7 +18,7 @@ use Rattle.analysis.proofs.ByPlace.{finding-is}
 
 module _ (set : List Task) where
   -- every task before place p passes
-  pub Passed : ℕ → Type 0
+  unfoldable pub Passed : ℕ → Type 0
   Passed p = (q : ℕ) → q < p → passes set q ≡ true
 
   pub none-passed : Passed 0

@@ -5,13 +5,16 @@ ghost use Rattle.sheet.specs.Tasks.{task-in, records-of};
 ghost use Rattle.sheet.specs.Admission.{admission};
 ghost use Rattle.sheet.specs.declared.Answer.the-variants.{Admitted};
 ghost use Rattle.admission.specs.Judged.{shapes-of};
+ghost use Rattle.order.specs.Order.{ordered-set};
 ghost use Rattle.analysis.specs.Findings.{no-finding};
 ghost use Rattle.analysis.specs.Answers.{blocker-code, code, refused-analysis, analysis-by, set-analysis, sheet-analysis, set-decision, set-left, sheet-decision, sheet-left};
+ghost use Rattle.analysis.specs.Misses.{miss-in, set-miss};
 ghost use Rattle.analysis.specs.Inside.Steps.{RightlyJudged};
 
 mod delivery;
 mod demand;
 mod findings;
+mod misses;
 mod response;
 mod verdict;
 
@@ -53,6 +56,12 @@ pub struct Analysis {
 pub struct Decision {
     pub outcome: Outcome,
     pub task_count: u32,
+}
+
+// Where a set misses first: the place in the priority order of the first task that does not pass, and its first frame without a response time.
+pub enum Miss {
+    Nothing,
+    Frame(u32, u32),
 }
 
 impl Finding {
@@ -171,4 +180,25 @@ pub fn analyse_sheet(bytes: &[u8], times: &mut [u32]) -> Decision
     ensures { λ r. ⌜ (r ≡ sheet-decision (now (bytes .entry)) (now (times .entry))) × (now (times .exit) ≡ sheet-left (now (bytes .entry)) (now (times .entry))) ⌝ }
 {
     delivery::deliver(analysis_of_sheet(bytes), times)
+}
+
+// The first miss of an admitted set.
+fn admitted_miss(set: TaskSet, shapes: [Shape; Sheet::TASK_ROOM]) -> Miss
+    requires { ⌜ (admission set ≡ Admitted) × (shapes ≡ shapes-of (map task-in (records-of set))) ⌝ }
+    ensures { λ r. ⌜ r ≡ miss-in (ordered-set (set .policy) (map task-in (records-of set))) ⌝ }
+{
+    misses::first_of(order::in_order(set), shapes)
+}
+
+// Where a set by value misses first; nowhere, if it is turned away.
+pub fn first_miss(set: TaskSet) -> Miss
+    ensures { λ r. ⌜ r ≡ set-miss set ⌝ }
+{
+    let judged = admission::admit(set);
+    let answer = judged.answer;
+    let shapes = judged.shapes;
+    match answer {
+        Answer::Admitted => admitted_miss(set, shapes),
+        Answer::Refused(_) => Miss::Nothing,
+    }
 }

@@ -5,7 +5,7 @@ use mathlib.Core.Option.{Option, none, some}
 use mathlib.Core.Path.{_≡_, refl, sym, subst, ap, _∙_}
 use Prim.Native.Nat.{ℕ}
 use native.Mathlib.Omega.{arith}
-use Rattle.lent.specs.Checks.{Check, _⇒_, first-refusal}
+use Rattle.lent.specs.Checks.{Check, _⇒_, first-refusal, retold}
 
 module _ {R : Type 0} where
   -- a check that applies decides
@@ -65,6 +65,31 @@ module _ {R : Type 0} where
           let z : _≡_ {A = ℕ} 0 1 = cc in
           let z : ⊥ = omega arith in
           absurd z
+
+-- ---- refusals told in another way
+
+module _ {R S : Type 0} (f : R → S) where
+  pub retold-none : (cs : List (Check R)) → first-refusal cs ≡ none → first-refusal (retold f cs) ≡ none
+  unfolding retold first-refusal
+  retold-none [] e = refl
+  retold-none (c ∷ cs) e = go (c .applies) e (retold-none cs)
+    where
+      go : (b : Bool) → _≡_ {A = Option R} (elim b as (λ (x : Bool). Option R) [ true ↦ some (c .refusal) | false ↦ first-refusal cs ]) none
+          → (first-refusal cs ≡ none → first-refusal (retold f cs) ≡ none)
+          → _≡_ {A = Option S} (elim b as (λ (x : Bool). Option S) [ true ↦ some (f (c .refusal)) | false ↦ first-refusal (retold f cs) ]) none
+      go true q later = let z : _≡_ {A = ℕ} 0 1 = cc in let y : ⊥ = omega arith in absurd y
+      go false q later = later q
+
+  pub retold-some : (cs : List (Check R)) (r : R) → first-refusal cs ≡ some r → first-refusal (retold f cs) ≡ some (f r)
+  unfolding retold first-refusal
+  retold-some [] r e = let z : _≡_ {A = ℕ} 0 1 = cc in let y : ⊥ = omega arith in absurd y
+  retold-some (c ∷ cs) r e = go (c .applies) e (retold-some cs r)
+    where
+      go : (b : Bool) → _≡_ {A = Option R} (elim b as (λ (x : Bool). Option R) [ true ↦ some (c .refusal) | false ↦ first-refusal cs ]) (some r)
+          → (first-refusal cs ≡ some r → first-refusal (retold f cs) ≡ some (f r))
+          → _≡_ {A = Option S} (elim b as (λ (x : Bool). Option S) [ true ↦ some (f (c .refusal)) | false ↦ first-refusal (retold f cs) ]) (some (f r))
+      go true q later = let same : c .refusal ≡ r = cc in rw same
+      go false q later = later q
 
 -- ---- what is true of each refusal that a row can give is true of the one that it gives
 

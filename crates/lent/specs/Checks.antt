@@ -16,3 +16,8 @@ b ⇒ r = record { applies = b; refusal = r }
 unfoldable pub first-refusal : {R : Type 0} → List (Check R) → Option R
 first-refusal [] = none
 first-refusal (c ∷ cs) = elim (c .applies) [ true ↦ some (c .refusal) | false ↦ first-refusal cs ]
+
+-- the same reasons, their refusals told in another way
+unfoldable pub retold : {R S : Type 0} → (R → S) → List (Check R) → List (Check S)
+retold f [] = []
+retold f (c ∷ cs) = (c .applies ⇒ f (c .refusal)) ∷ retold f cs

@@ -60,7 +60,8 @@ module _ (t : Task) (f : Formed t) where
         monotonic = monotonic-test t .0 (f .starts);
       }
 
-each-at : {P : Task → Type 0} {ts : List Task} → Each P ts → (p : ℕ) → p < length ts → P (task-at ts p)
+-- what is true of each task of a list is true of the one at a place
+pub each-at : {P : Task → Type 0} {ts : List Task} → Each P ts → (p : ℕ) → p < length ts → P (task-at ts p)
 unfolding task-at
 each-at no-task p h = let z : ⊥ = omega arith in absurd z
 each-at (task-more x xs) zero h = x

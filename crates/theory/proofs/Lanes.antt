@@ -3,7 +3,7 @@ use mathlib.Core.Bool.{Bool, true, false}
 use mathlib.Core.List.{List, [], _∷_, _++_, List·Memᴰ, List·Memᴰ·head, List·Memᴰ·tail, List·Memᴰ·append-cases, List·Memᴰ·cases-cons, List·Memᴰ·eq-of-singleton, List·Memᴰ·not-nil}
 use mathlib.Core.Logic.{_⊎_, inl, inr}
 use mathlib.Core.Option.{Option, none, some}
-use mathlib.Core.Path.{_≡_, refl, sym}
+use mathlib.Core.Path.{_≡_, refl, sym, _∙_, ap}
 use Prim.Native.Nat.{ℕ, zero, suc, pred, _+_, _≤_}
 use native.Mathlib.Nat.{le-refl, add-zero, zero-add}
 use native.Mathlib.Omega.{arith}
@@ -78,6 +78,37 @@ unfolding oldest-left
 append-oldest [] new h = let z : ⊥ = omega arith in absurd z
 append-oldest (job r k zero ∷ js) new h = append-oldest js new h
 append-oldest (job r k (suc w) ∷ js) new h = refl
+
+-- ---- no job, and one
+
+-- of one job its work is left
+pub oldest-one : (r k w : ℕ) → oldest-left (job r k w ∷ []) ≡ w
+unfolding oldest-left
+oldest-one r k zero = refl
+oldest-one r k (suc w) = refl
+
+-- and no more
+pub total-one : {js : List Job} {r k w : ℕ} → js ≡ job r k w ∷ [] → total js ≡ w
+unfolding total
+total-one {w = w} e = rw e (add-zero w)
+
+-- a tick takes a unit of it
+pub serve-job : (r k w : ℕ) → serve (job r k w ∷ []) ≡ job r k (pred w) ∷ []
+unfolding serve
+serve-job r k zero = refl
+serve-job r k (suc w) = refl
+
+-- after a tick a lane without jobs has none
+pub serve-empty : (b : Bool) (l : Lane) → l .jobs ≡ [] → serve-lane b l .jobs ≡ []
+unfolding serve-lane serve
+serve-empty false l e = e
+serve-empty true l e = rw e
+
+-- and a lane of one job has that one
+pub serve-one : (b : Bool) (l : Lane) {r k w : ℕ} → l .jobs ≡ job r k w ∷ [] → (v : ℕ) × (serve-lane b l .jobs ≡ job r k v ∷ [])
+unfolding serve-lane
+serve-one false l {w = w} e = (w, e)
+serve-one true l {r} {k} {w} e = (pred w, ap serve e ∙ serve-job r k w)
 
 -- ---- a lane
 

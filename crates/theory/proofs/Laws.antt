@@ -1,4 +1,4 @@
--- The laws that other crates cite, gathered in one place.
+-- The laws of the analysis that other crates cite, gathered in one place; laws of runs are cited from the files in which they stand.
 
 -- frames and the work of n jobs: one job more, whole rounds, monotone in n and in frames
 pub use Rattle.theory.proofs.Work.{work-zero, work-suc, work-one, work-add, work-mono, work-mod, whole-round, whole-rounds, work-frames}
@@ -31,5 +31,5 @@ pub use Rattle.theory.proofs.Verdict.{rounds-of-reach, rounds-of-pass}
 -- the verdict; and that nothing depends on the order of the tasks above and below
 pub use Rattle.theory.proofs.Verdict.{verdict-holds, IsMissed, verdict-missed}
 pub use Rattle.theory.proofs.Order.{SamePlace, blocking-order, demand-of-same, response-of-same, passes-same}
--- runs: within a task the tick goes to the oldest job
+-- within a task the tick goes to the oldest job
 pub use Rattle.theory.proofs.Lanes.{total, serve-oldest-first}

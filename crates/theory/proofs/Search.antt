@@ -112,6 +112,18 @@ first-is-none a n test h = go (answer (first a n test))
         let f : IsFirst a n test i = first-some a n test e in
         absurd (true≢false (sym (f .passes) ∙ h i (f .from) (f .before)))
 
+-- two tests that agree on a row have the same first one
+pub first-same : (a n : ℕ) (f g : ℕ → Bool) → ((u : ℕ) → u < a + n → f u ≡ g u) → first a n f ≡ first a n g
+first-same a n f g same = go (answer (first a n g))
+  where
+    go : Answer (first a n g) → first a n f ≡ first a n g
+    go (nothing e) = first-is-none a n f (λ u l h. same u h ∙ first-none a n g e u l h) ∙ sym e
+    go (it-is j e) =
+        let it : IsFirst a n g j = first-some a n g e in
+        let here : IsFirst a n f j =
+        record { from = it .from; before = it .before; passes = same j (it .before) ∙ it .passes; earlier = λ u l h. same u (omega (arith, it .before)) ∙ it .earlier u l h } in
+        first-is a n f here ∙ sym e
+
 -- a row in which some number passes has a first one
 pub first-exists : (a n : ℕ) (test : ℕ → Bool) (u : ℕ) → a ≤ u → u < a + n → test u ≡ true → (j : ℕ) × (first a n test ≡ some j) × (j ≤ u)
 first-exists a n test u h k e = go (answer (first a n test))

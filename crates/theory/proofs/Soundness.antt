@@ -9,7 +9,7 @@ use native.Mathlib.Decide.{decLe}
 use native.Mathlib.Nat.{le-refl, le-trans, add-le-add, add-zero, suc-mul, mod-eq-of-lt}
 use native.Mathlib.Omega.{arith}
 use lib.ListN.{length}
-use Rattle.theory.specs.Tasks.{Task, task-at, frame-count, frame, deadline-of, work, WellFormed, Admitted}
+use Rattle.theory.specs.Tasks.{Task, task-at, frame-count, frame, deadline-of, work, Admitted}
 use Rattle.theory.specs.Analysis.{lower, blocking, higher, releases, higher-work, demand, IsResponse, demand-of, response-of, passes}
 use Rattle.theory.specs.Runs.{job, Run, state-at, Legal, TakesLonger}
 use Rattle.theory.proofs.Work.{work-mono, work-one, start-most, period-positive}
@@ -142,21 +142,31 @@ module _ (set : List Task) (admitted : Admitted set) (p : ℕ) (in-set : p < len
   pub periods-above : (q : ℕ) → q < p → 1 ≤ task-at set q .period
   periods-above q l = period-of set admitted q (omega arith)
 
-  -- the response times of a passing task are enough
+  -- a frame's response time
   response-time : ℕ → ℕ
   response-time k = Option·getD (response-of set p k) 0
 
-  enough-by-response : passes set p ≡ true → Enough set p response-time
+  is-response : passes set p ≡ true → (k : ℕ) → IsResponse (demand-of set p k) (deadline-of (task-at set p) k) (response-time k)
   unfolding response-time
-  enough-by-response pass = enough-by-demand response-time go
-    where
-      go : (k : ℕ) → k < frame-count (task-at set p)
-          → (1 ≤ response-time k) × (response-time k ≤ task-at set p .period) × (demand-of set p k (response-time k) ≤ response-time k)
-      go k l =
-          let w : WellFormed (task-at set p) = admitted .each-task p in-set .well-formed in
-          let (R, e) = passes-frames set p (w .has-frame) pass k in
-          let r : IsResponse (demand-of set p k) (deadline-of (task-at set p) k) R = response-of-is set p k .0 e in
-          rw e (r .positive, le-trans (r .within) (w .deadline-in-period k l), r .enough)
+  is-response pass k =
+      let (R, e) = passes-frames set p (admitted .each-task p in-set .well-formed .has-frame) pass k in
+      rw e (response-of-is set p k .0 e)
+
+  -- those of a passing task are enough
+  enough-by-response : passes set p ≡ true → Enough set p response-time
+  enough-by-response pass =
+      enough-by-demand response-time
+      (λ k l. let r = is-response pass k in (r .positive, le-trans (r .within) (admitted .each-task p in-set .well-formed .deadline-in-period k l), r .enough))
+
+  -- a job of a passing task with work left has not reached its deadline
+  pub unfinished-in-time : passes set p ≡ true → (run : Run) → Legal set run → (r k w t : ℕ) → t ≤ run .ticks
+      → List·Memᴰ (job r k (suc w)) (state-at set run t .lanes p .jobs) → t < r + deadline-of (task-at set p) k
+  unfinished-in-time pass run legal r k w t h m =
+      omega (
+        arith,
+        unfinished-early set run legal p in-set periods-above response-time (enough-by-response pass) r k w t h m .1,
+        is-response pass k .within,
+      )
 
   -- a job of a passing task takes longer only than what is less than its frame's response time
   pub takes-less-than-response : passes set p ≡ true → (run : Run) → Legal set run → (r k x : ℕ) {R : ℕ} → TakesLonger set run p r k x → response-of set p k ≡ some R → x < R

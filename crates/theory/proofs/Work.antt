@@ -228,6 +228,10 @@ frame-in-period t w k =
 pub period-positive : {t : Task} → WellFormed t → 1 ≤ t .period
 period-positive {t} w = omega (arith, w .frame-positive 0 (w .has-frame), frame-in-period t w 0)
 
+-- and so is a frame's deadline
+pub deadline-positive : {t : Task} → WellFormed t → (k : ℕ) → k < frame-count t → 1 ≤ deadline-of t k
+deadline-positive w k h = omega (arith, w .frame-positive k h, w .frame-in-deadline k h)
+
 -- n jobs of frames within a period fit into n periods
 pub work-in-periods : (t : Task) {T : ℕ} → ((k : ℕ) → frame t k ≤ T) → (s n : ℕ) → work t s n ≤ n * T
 work-in-periods t {T} within s zero = rw (work-zero t s, zero-mul T) (le-refl 0)

@@ -1,20 +1,20 @@
 -- In the worst run of a frame its job is complete exactly when the demand is first met.
-use mathlib.Core.Bool.{Bool, true, false}
 use mathlib.Core.List.{List, [], _∷_, List·Memᴰ, List·Memᴰ·head}
 use mathlib.Core.Option.{none, some}
 use mathlib.Core.Path.{_≡_, refl, sym, _∙_, ap, subst}
 use Prim.Native.Nat.{ℕ, zero, suc, _+_, _≤_, _<_}
 use native.Mathlib.Decide.{ℕ-discrete}
-use native.Mathlib.Nat.{le-refl, add-zero}
+use native.Mathlib.Nat.{le-refl}
 use native.Mathlib.Numerals.{one-add}
 use native.Mathlib.Omega.{arith}
 use lib.ListN.{length}
 use Rattle.theory.specs.Tasks.{Task, task-at, frame-count, frame, deadline-of, WellFormed, Admitted}
 use Rattle.theory.specs.Analysis.{lower, blocking, IsResponse, demand-of, response-of}
-use Rattle.theory.specs.Runs.{Job, job, Lane, State, Run, release-lane, serve, serve-lane, pick, tick, state-at, seen-at, Left, TakesLonger, Takes, Misses}
+use Rattle.theory.specs.Runs.{job, State, Run, release-lane, pick, tick, state-at, seen-at, Left, TakesLonger, Takes, Misses}
 use Rattle.theory.specs.WorstRun.{worst-first, worst-run}
+use Rattle.theory.proofs.Work.{deadline-positive}
 use Rattle.theory.proofs.Places.{sum-eq, sum-none, sum-at}
-use Rattle.theory.proofs.Lanes.{total}
+use Rattle.theory.proofs.Lanes.{total, total-one, serve-empty, serve-one}
 use Rattle.theory.proofs.Steps.{picked, lane-step, seen-lane, state-step, pending-work}
 use Rattle.theory.proofs.Busy.{arrived-above}
 use Rattle.theory.proofs.Soundness.{periods-above}
@@ -23,26 +23,6 @@ use Rattle.theory.proofs.WorstReleases.{once-at, once-else, role-own, r
 use Rattle.theory.proofs.WorstTicks.{Foreign, load, foreign-tick, foreign-seen, takes-one, nothing-left, load-seen}
 use Rattle.theory.proofs.WorstFirstTick.{empty, foreign-at-one, load-at-one}
 use Rattle.theory.proofs.WorstLegal.{no-later-stretch, next-at-one}
-
--- ---- a lane of no job and of one
-
-serve-empty : (b : Bool) (l : Lane) → l .jobs ≡ [] → serve-lane b l .jobs ≡ []
-unfolding serve-lane serve
-serve-empty false l e = e
-serve-empty true l e = rw e
-
-serve-one : (b : Bool) (l : Lane) {r f w : ℕ} → l .jobs ≡ job r f w ∷ [] → (v : ℕ) × (serve-lane b l .jobs ≡ job r f v ∷ [])
-unfolding serve-lane serve
-serve-one false l {r} {f} {w} e = (w, e)
-serve-one true l {r} {f} {w} e = go w e
-  where
-    go : (w : ℕ) → l .jobs ≡ job r f w ∷ [] → (v : ℕ) × (serve (l .jobs) ≡ job r f v ∷ [])
-    go zero e = (0, rw e)
-    go (suc w) e = (w, rw e)
-
-total-one : {js : List Job} {r f w : ℕ} → js ≡ job r f w ∷ [] → total js ≡ w
-unfolding total
-total-one {w = w} e = rw e (add-zero w)
 
 module _ (set : List Task) (admitted : Admitted set) (p : ℕ) (in-set : p < length set) (k : ℕ) (k-in : k < frame-count (task-at set p)) where
   abbrev worst : Run
@@ -69,7 +49,8 @@ module _ (set : List Task) (admitted : Admitted set) (p : ℕ) (in-set : p < len
 
   -- ---- the job's own lane
 
-  own-empty : before 0 .lanes p .jobs ≡ []
+  -- at tick 1 it is empty
+  pub own-empty : state-at set (worst-run set p k) 1 .lanes p .jobs ≡ []
   own-empty =
       let (b, e) = lane-step set worst 0 p in
       ap (λ l. l .jobs) e ∙ serve-empty b (seen-at set worst 0 .lanes p) (empty set p k p (none-at-zero set p k p (le-refl p)))
@@ -84,14 +65,15 @@ module _ (set : List Task) (admitted : Admitted set) (p : ℕ) (in-set : p < len
       ap (λ l. l .jobs) (seen-lane set worst 1 p)
       ∙ rw (release-own set p k 1, once-at 1 (frame (task-at set p) k), own-next, own-empty)
 
-  -- it is released once
-  own-later : (x : ℕ) → seen (suc x) .lanes p ≡ before (suc x) .lanes p
+  -- the job is released once
+  pub own-later : (x : ℕ) → seen-at set (worst-run set p k) (suc (suc x)) .lanes p ≡ state-at set (worst-run set p k) (suc (suc x)) .lanes p
   unfolding release-lane
   own-later x =
       seen-lane set worst (suc (suc x)) p
       ∙ rw (release-own set p k (suc (suc x)), once-else 1 (frame (task-at set p) k) (suc (suc x)) (λ z. omega arith))
 
-  own-jobs : (x : ℕ) → (w : ℕ) × (seen x .lanes p .jobs ≡ job 1 k w ∷ [])
+  -- and the only one of its lane
+  pub own-jobs : (x : ℕ) → (w : ℕ) × (seen-at set (worst-run set p k) (suc x) .lanes p .jobs ≡ job 1 k w ∷ [])
   own-jobs zero = (frame (task-at set p) k, own-first)
   own-jobs (suc x) =
       let (w, e) = own-jobs x in
@@ -183,7 +165,7 @@ module _ (set : List Task) (admitted : Admitted set) (p : ℕ) (in-set : p < len
   job-left x h =
       rw (one-add x)
       (record {
-        released = omega (arith, worst-ticks, well-formed .frame-positive k k-in, well-formed .frame-in-deadline k k-in);
+        released = omega (arith, worst-ticks, deadline-positive well-formed k k-in);
         reached = omega (arith, worst-ticks);
         stands = left-is x;
       })

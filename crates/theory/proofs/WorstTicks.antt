@@ -32,10 +32,23 @@ stretch-filled zero n h = let z : ⊥ = omega arith in absurd z
 stretch-filled (suc zero) n h = omega arith
 stretch-filled (suc (suc left)) n h = refl
 
-stretch-none : (left : ℕ) → stretch-after left 0 ≡ 0
+-- without a stretch none is to come
+pub stretch-none : (left : ℕ) → stretch-after left 0 ≡ 0
 unfolding stretch-after
 stretch-none zero = refl
 stretch-none (suc left) = refl
+
+-- a stretch as long as its job stays so
+pub stretch-of-job : (m : ℕ) → stretch-after (pred m) m ≡ pred m
+unfolding stretch-after
+stretch-of-job zero = refl
+stretch-of-job (suc zero) = refl
+stretch-of-job (suc (suc m)) = refl
+
+-- with none under way the one that starts is under way
+pub now-starts : (new : ℕ) → stretch-now 0 new ≡ new
+unfolding stretch-now
+now-starts new = refl
 
 module _ (s : State) where
   -- a stretch under way that is filled is one tick shorter

@@ -1,10 +1,12 @@
 -- What the steps from a judged set to its findings ask and hand on.
-use mathlib.Core.Bool.{Bool, true, false}
+use mathlib.Core.Bool.{Bool, true, false, not}
 use mathlib.Core.List.{List, map}
+use mathlib.Core.Option.{Option·getD}
 use mathlib.Core.Path.{_≡_}
 use Prim.Native.Nat.{ℕ, _<_}
 use lib.ListN.{length, getD, take}
-use Rattle.theory.specs.Tasks.{Task, task-at, frame-count, largest, shortest-deadline, AdmittedTask}
+use Rattle.theory.specs.First.{first}
+use Rattle.theory.specs.Tasks.{Task, task-at, frame-count, frame, largest, deadline-of, shortest-deadline, AdmittedTask}
 use Rattle.theory.specs.Analysis.{Higher}
 use Rattle.sheet.specs.Constants.{most-tasks}
 use Rattle.sheet.specs.Tasks.{task-in, records-of}
@@ -71,3 +73,13 @@ finding-to above number blocked r =
     let t = task-in r in
     let pass = is-there (response-to above blocked (largest (t .frames)) (shortest-deadline t)) in
     finding-with number blocked t pass (slots-by pass (times-to above blocked r))
+
+-- whether a task passes, by the tasks above it and its blocking
+unfoldable pub passes-to : List Higher → ℕ → Record → Bool
+passes-to above blocked r = let t = task-in r in is-there (response-to above blocked (largest (t .frames)) (shortest-deadline t))
+
+-- its first frame without a response time
+unfoldable pub without-to : List Higher → ℕ → Record → ℕ
+without-to above blocked r =
+    let t = task-in r in
+    Option·getD (first 0 (frame-count t) (λ k. not (is-there (response-to above blocked (frame t k) (deadline-of t k))))) 0

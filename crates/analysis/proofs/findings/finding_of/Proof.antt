@@ -3,23 +3,17 @@ use mathlib.Core.Bool.{true}
 use mathlib.Core.List.{List}
 use mathlib.Core.Path.{_≡_, sym, ap, _∙_}
 use Prim.Native.Nat.{ℕ}
-use Rattle.theory.specs.Tasks.{Task, largest, shortest-deadline}
+use Rattle.theory.specs.Tasks.{shortest-deadline}
 use Rattle.sheet.specs.Tasks.{task-in}
-use Rattle.admission.specs.Judged.{shape-of}
-use Rattle.admission.specs.declared.Shape.{Shape}
 use Rattle.analysis.specs.Inside.Demand.{Tallies}
 use Rattle.analysis.specs.Inside.Response.{response-to}
 use Rattle.analysis.specs.Inside.Steps.{as-written, finding-with}
 use Rattle.analysis.proofs.ByPlace.{largest-counts, finding-there, finding-never}
+use Rattle.analysis.proofs.Shapes.{largest-is}
 use denote.Ref.{now}
 use borrow.Author.Needs.{needs}
 use Rattle.analysis.proofs.findings.finding_of.Statement.{statement}
 use Rattle.analysis.proofs.findings.finding_of.Tie as tie
-
--- the largest frame is the task's
-largest-is : (s : Shape) (t : Task) → s ≡ shape-of t → largest (t .frames) ≡ s .largest
-unfolding shape-of
-largest-is s t e = sym (ap (λ (x : Shape). x .largest) e)
 
 shortest-deadline-requires : tie.Need-shortest-deadline-requires
 shortest-deadline-requires c κs = search needs

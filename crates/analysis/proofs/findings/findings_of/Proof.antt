@@ -1,21 +1,19 @@
 -- `findings_of` meets its contract.
-use mathlib.Core.Path.{_≡_, refl, sym, ap, _∙_}
+use mathlib.Core.Path.{_≡_, refl}
 use Prim.Native.Nat.{ℕ, _≤_, _<_, _-_}
 use native.Mathlib.Omega.{arith}
 use lib.ListN.{length, getD}
-use Rattle.theory.specs.Tasks.{Task as TheoryTask, task-at, frame-count, start-frame, WellFormed}
-use Rattle.theory.proofs.Laws.{start-is}
 use Rattle.sheet.specs.Constants.{most-tasks}
-use Rattle.sheet.specs.Tasks.{task-in, no-record}
+use Rattle.sheet.specs.Tasks.{no-record}
 use Rattle.sheet.specs.declared.Task.{Task}
 use Rattle.sheet.proofs.Records.{mapped-length}
-use Rattle.admission.specs.Judged.{shape-of, no-shape}
-use Rattle.admission.specs.declared.Shape.{Shape}
 use Rattle.order.specs.Ordered.{tasks-in-order}
 use Rattle.order.specs.declared.Ordered.{Ordered}
 use Rattle.analysis.specs.Inside.Demand.{Tallies}
 use Rattle.analysis.proofs.Growing.{Grown, none-grown, tallies-above, grown-more, all-grown}
-use Rattle.analysis.proofs.InUse.{tasks-count, task-is}
+use Rattle.analysis.proofs.InUse.{tasks-count}
+use Rattle.analysis.proofs.Placed.{task-there, shape-there, well-formed, start-in}
+use Rattle.analysis.proofs.Shapes.{shape-start}
 use borrow.Author.Needs.{needs}
 use Rattle.analysis.proofs.findings.findings_of.Statement.{statement}
 use Rattle.analysis.proofs.findings.findings_of.Tie as tie
@@ -26,11 +24,6 @@ Inv-loop o shapes tasks numbers count findings₀ above₀ p₀ findings above p
 
 abbrev μ-loop : tie.MeasureT-loop
 μ-loop o shapes tasks numbers count findings₀ above₀ p₀ findings above p = count - p
-
--- the start frame of a shape is the task's
-shape-start : (s : Shape) (t : TheoryTask) → s ≡ shape-of t → s .start ≡ start-frame t
-unfolding shape-of
-shape-start s t e = ap (λ (x : Shape). x .start) e
 
 cast-in-use : tie.Need-cast-in-use Inv-loop μ-loop
 cast-in-use c = search needs
@@ -73,9 +66,6 @@ module _ (c : tie.In-loop Inv-loop μ-loop) where
   abbrev task : Task
   task = getD (o .tasks) p no-record
 
-  abbrev shape : Shape
-  shape = getD (start .args .t2) (getD (o .numbers) p 0) no-shape
-
   inside : p < length (tasks-in-order o)
   inside = omega (arith, c .before .loop .inv .1)
 
@@ -86,20 +76,11 @@ module _ (c : tie.In-loop Inv-loop μ-loop) where
   few : length (tasks-in-order o) ≤ most-tasks
   few = omega (arith, c .before .loop .inv .1)
 
-  task-there : task-in task ≡ task-at (tasks-in-order o) p
-  task-there = task-is o p no-record inside (c .before .loop .inv .3)
-
-  shape-there : shape ≡ shape-of (task-in task)
-  shape-there = start .pre .shape-is p inside ∙ ap shape-of (sym task-there)
-
-  well-formed : WellFormed (task-in task)
-  well-formed = rw task-there (start .pre .admitted p inside .well-formed)
-
-  start-in : shape .start < frame-count (task-in task)
-  start-in = rw (shape-start _ _ shape-there) (start-is (task-in task) (rw task-there (start .pre .admitted p inside .monotonic)) .start-in)
+  room : length (o .tasks) ≡ most-tasks
+  room = c .before .loop .inv .3
 
   abbrev tallies : Tallies p (c .before .loop .above)
-  tallies = tallies-above o (start .args .t2) (start .pre) few _ _ p inside (c .before .loop .inv .4)
+  tallies = tallies-above o (start .args .t2) (start .pre) few _ p inside (c .before .loop .inv .4 .tasks-above)
 
 cast-shape : tie.Need-cast-shape Inv-loop μ-loop
 cast-shape c = record { fits = omega (arith, below (c .before)) }
@@ -117,7 +98,7 @@ blocking-requires : tie.Need-blocking-requires Inv-loop μ-loop
 blocking-requires c κs = search needs
 
 finding-of-requires : tie.Need-finding-of-requires Inv-loop μ-loop
-finding-of-requires c κs = let at = c .before .before .before .before in (omega arith, tallies at, well-formed at, shape-there at)
+finding-of-requires c κs = let at = c .before .before .before .before in (omega arith, tallies at, well-formed (o at) _ (start at .pre) (room at) (p at) (inside at), shape-there (o at) _ (start at .pre) (room at) (p at) (inside at))
 
 mul-findings : tie.Need-mul-findings Inv-loop μ-loop
 mul-findings c = search needs
@@ -126,7 +107,7 @@ array-set-from-findings : tie.Need-array-set-from-findings Inv-loop μ-loop
 array-set-from-findings c = search needs
 
 tally-of-requires : tie.Need-tally-of-requires Inv-loop μ-loop
-tally-of-requires c κs = start-in (c .before .before .before .before .before)
+tally-of-requires c κs = let at = c .before .before .before .before .before in start-in (o at) _ (start at .pre) (room at) (p at) (inside at)
 
 mul-above : tie.Need-mul-above Inv-loop μ-loop
 mul-above c = search needs
@@ -147,8 +128,8 @@ loop-again c =
       at .before .loop .inv .1,
       at .before .loop .inv .2,
       at .before .loop .inv .3,
-      grown-more (o at) (start at .args .t2) (start at .pre) (few at) _ _ (p at) (inside at) (at .before .loop .inv .4) _ _ _ (task at) _ _ (task-there at) refl
-          (c .before .before .before .blocking .ensures) (c .before .finding-of .ensures (tallies at)) (shape-start _ _ (shape-there at)) (c .tally-of .ensures),
+      grown-more (o at) (start at .args .t2) (start at .pre) (few at) _ _ (p at) (inside at) (at .before .loop .inv .4) _ _ _ (task at) _ _ (task-there (o at) _ (start at .pre) (room at) (p at) (inside at)) refl
+          (c .before .before .before .blocking .ensures) (c .before .finding-of .ensures (tallies at)) (shape-start _ _ (shape-there (o at) _ (start at .pre) (room at) (p at) (inside at))) (c .tally-of .ensures),
     )
 
 returns : tie.Need-returns Inv-loop μ-loop

@@ -1,0 +1,147 @@
+-- The releases of a tick, entry by entry, go the way of the theory's, which sees all of them at once.
+use mathlib.Core.List.{List, [], _∷_, _++_}
+use mathlib.Core.Option.{Option, none, some}
+use mathlib.Core.Path.{_≡_, refl, sym, ap, _∙_}
+use Prim.Native.Nat.{ℕ, suc, _+_, _≤_, _<_}
+use native.Mathlib.Decide.{ℕ-discrete}
+use native.Mathlib.Omega.{arith}
+use lib.ListN.{length, getD, take, drop, length-set}
+use lib.Seq.{getD-set-same, getD-set-other}
+use Rattle.lent.specs.Checks.{first-refusal}
+use Rattle.theory.specs.Tasks.{Task, task-at, deadline-of}
+use Rattle.theory.specs.Runs.{job, Lane, State, release-lane, release}
+use Rattle.theory.proofs.Lanes.{total}
+use Rattle.sheet.specs.Constants.{most-tasks}
+use Rattle.order.specs.Claims.{Permutes}
+use Rattle.analysis.specs.Times.{number-at, place-of}
+use Rattle.analysis.proofs.Numbering.{number-back}
+use Rattle.plays.specs.Script.{Script, no-entry, entry-of}
+use Rattle.plays.specs.Items.{item-checks}
+use Rattle.plays.specs.ScriptRun.{work-of, lock-of, released-at, script-state}
+use Rattle.plays.specs.Play.{script-seen}
+use Rattle.plays.specs.declared.Entry.{Entry}
+use Rattle.plays.proofs.Courses.{entry-is}
+use Rattle.plays.proofs.ScriptLegal.{entries-in-order}
+use Rattle.plays.proofs.ScriptFacts.{member-at, NoneAt, none-yet, none-more, entry-in-set, now-there, others-stay}
+use Rattle.plays.proofs.ScriptLanes.{task-of-number, seen-by-release}
+use Rattle.player.specs.State.{released}
+use Rattle.player.specs.Shows.{Slot, Shows, locks-of}
+use Rattle.player.specs.declared.state.Player.{Player}
+use Rattle.player.proofs.Slots.{slot-released}
+
+-- the release of task i
+released-of : (order : List ℕ) (sc : Script) (t p : ℕ) {i : ℕ} → number-at order p ≡ i → released-at order sc t p ≡ work-of (entry-of (sc .entries) i t)
+unfolding released-at
+released-of order sc t p e = rw e
+
+module _ (order : List ℕ) (tasks : List Task) (sc : Script) where
+  -- the lane of task i with the releases of tick t that are among the first j entries
+  abbrev lane-with : ℕ → State → ℕ → ℕ → Lane
+  lane-with t s j i = release-lane (task-at tasks i) t (work-of (entry-of (take j (sc .entries)) i t)) (s .lanes (place-of order i))
+
+  -- the player's state shows the run's with these releases seen
+  pub record Seeing (t : ℕ) (s : State) (j : ℕ) (player : Player) : Type 0 where
+    pub slots : (i : ℕ) → i < length tasks → Slot tasks sc player i (lane-with t s j i .jobs)
+    pub coming : player .«to_come» ≡ s .to-come
+    pub holder : 1 ≤ s .to-come → number-at order (s .owner) ≡ player .picked
+    pub left-room : length (player .left) ≡ most-tasks
+    pub due-room : length (player .due) ≡ most-tasks
+    pub lock-room : length (player .lock) ≡ most-tasks
+
+  nothing-released : {o : Option Entry} (t i : ℕ) (l : Lane) → o ≡ none → release-lane (task-at tasks i) t (work-of o) l ≡ l
+  unfolding release-lane work-of
+  nothing-released t i l e = rw e
+
+  one-released : {o : Option Entry} {e : Entry} (t i : ℕ) (l : Lane) → o ≡ some e
+      → release-lane (task-at tasks i) t (work-of o) l .jobs ≡ l .jobs ++ (job t (l .next) (e .work) ∷ [])
+  unfolding release-lane work-of
+  one-released t i l e = rw e
+
+  -- before the first entry of the tick none is seen
+  pub seeing-none : (t j : ℕ) (s : State) (player : Player) → NoneAt t (take j (sc .entries)) → Shows order tasks sc s player → Seeing t s j player
+  seeing-none t j s player none-at shows =
+      record {
+        slots = λ i h. rw (nothing-released t i (s .lanes (place-of order i)) (none-yet (sc .entries) j i t none-at)) (shows .slots i h);
+        coming = shows .coming;
+        holder = shows .holder;
+        left-room = shows .left-room;
+        due-room = shows .due-room;
+        lock-room = shows .lock-room;
+      }
+
+  module _ (kept : first-refusal (item-checks tasks sc) ≡ none) (few : length tasks ≤ most-tasks) (s : State) (j : ℕ) (in-row : j < length (sc .entries)) where
+    abbrev e : Entry
+    e = getD (sc .entries) j no-entry
+
+    abbrev lane : Lane
+    lane = s .lanes (place-of order (e .task))
+
+    -- it is the entry of its task at its tick
+    its-own : entry-of (sc .entries) (e .task) (e .tick) ≡ some e
+    its-own = entry-is 0 (sc .entries) (entries-in-order tasks sc kept) e (member-at (sc .entries) j in-row)
+
+    locks-it : e .lock ≡ locks-of sc (e .task) (e .tick)
+    unfolding lock-of
+    locks-it = rw its-own
+
+    -- its task is released at its tick with its work
+    pub release-there : Permutes (length tasks) order
+        → released-at order sc (getD (sc .entries) j no-entry .tick) (place-of order (getD (sc .entries) j no-entry .task)) ≡ some (getD (sc .entries) j no-entry .work)
+    unfolding work-of
+    release-there permutes =
+        released-of order sc (e .tick) (place-of order (e .task)) (number-back (length tasks) order permutes (e .task) (entry-in-set tasks sc kept j in-row))
+        ∙ rw its-own
+
+    module _ (player : Player) (deadline : ℕ) (its-deadline : deadline ≡ deadline-of (task-at tasks (e .task)) (lane .next)) (alone : total (lane .jobs) ≡ 0)
+        (before : Seeing (getD (sc .entries) j no-entry .tick) s j player) where
+      abbrev then : Player
+      then = released player e deadline
+
+      own-slot : Slot tasks sc then (e .task) (lane-with (e .tick) s (suc j) (e .task) .jobs)
+      own-slot =
+          let i-in : e .task < most-tasks = omega (arith, entry-in-set tasks sc kept j in-row) in
+          rw (one-released (e .tick) (e .task) lane (now-there tasks sc kept j in-row), getD-set-same (player .left) (e .task) (e .work) 0 (omega (arith, before .left-room)), getD-set-same (player .due) (e .task) (e .tick + deadline) 0 (omega (arith, before .due-room)), getD-set-same (player .lock) (e .task) (e .lock) 0 (omega (arith, before .lock-room)), its-deadline)
+          (slot-released (lane .jobs) (e .tick) (lane .next) (e .work) (e .lock) alone locks-it)
+
+      other-slot : (i : ℕ) → i < length tasks → ¬ (i ≡ e .task) → Slot tasks sc then i (lane-with (e .tick) s (suc j) i .jobs)
+      other-slot i h ne =
+          rw (others-stay tasks sc kept j in-row i (e .tick) (λ p _. ne (sym p)), getD-set-other (player .left) (e .task) i (e .work) 0 ne, getD-set-other (player .due) (e .task) i (e .tick + deadline) 0 ne, getD-set-other (player .lock) (e .task) i (e .lock) 0 ne)
+          (before .slots i h)
+
+      -- a release of the player goes the way of the theory's
+      pub seeing-more : Seeing (getD (sc .entries) j no-entry .tick) s (suc j) (released player (getD (sc .entries) j no-entry) deadline)
+      seeing-more =
+          record {
+            slots = λ i h. go i h (ℕ-discrete i (e .task));
+            coming = before .coming;
+            holder = before .holder;
+            left-room = length-set (player .left) (e .task) (e .work) ∙ before .left-room;
+            due-room = length-set (player .due) (e .task) (e .tick + deadline) ∙ before .due-room;
+            lock-room = length-set (player .lock) (e .task) (e .lock) ∙ before .lock-room;
+          }
+        where
+          go : (i : ℕ) → i < length tasks → Dec (i ≡ e .task) → Slot tasks sc then i (lane-with (e .tick) s (suc j) i .jobs)
+          go i h (yes same) = rw same own-slot
+          go i h (no ne) = other-slot i h ne
+
+  -- behind its last entry all releases of the tick are seen
+  pub seeing-all : Permutes (length tasks) order → (t j : ℕ) (player : Player) → NoneAt t (drop j (sc .entries))
+      → Seeing t (script-state order tasks sc t) j player → Shows order tasks sc (script-seen order tasks sc t) player
+  unfolding script-seen release
+  seeing-all permutes t j player none-at seeing =
+      record {
+        slots = λ i h. rw (seen i h) (seeing .slots i h);
+        coming = seeing .coming;
+        holder = seeing .holder;
+        left-room = seeing .left-room;
+        due-room = seeing .due-room;
+        lock-room = seeing .lock-room;
+      }
+    where
+      same-release : (i : ℕ) → i < length tasks → released-at order sc t (place-of order i) ≡ work-of (entry-of (take j (sc .entries)) i t)
+      same-release i h = released-of order sc t (place-of order i) (number-back (length tasks) order permutes i h) ∙ ap work-of (none-more (sc .entries) j i t none-at)
+
+      seen : (i : ℕ) → i < length tasks → script-seen order tasks sc t .lanes (place-of order i) .jobs ≡ lane-with t (script-state order tasks sc t) j i .jobs
+      seen i h =
+          ap (λ l. l .jobs) (seen-by-release order tasks sc t (place-of order i))
+          ∙ rw (task-of-number order tasks permutes i h, same-release i h) refl

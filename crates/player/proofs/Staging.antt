@@ -1,0 +1,106 @@
+-- The cast of a play that is not turned away, and what the entries cite.
+use mathlib.Core.List.{List, _++_, map, append-nil}
+use mathlib.Core.Path.{_≡_, refl, ap, _∙_}
+use Prim.Native.Nat.{ℕ, _+_, _≤_, _<_}
+use native.Mathlib.Omega.{arith}
+use borrow.Author.Tests.{lt-ltb, le-ltb}
+use lib.ListN.{length, getD, take, set, length-map, List·getD-map, drop-of-length-le}
+use lib.Seq.{take-all}
+use Rattle.lent.specs.Lent.{laid}
+use Rattle.lent.proofs.Laid.{laid-to, laid-more, laid-all}
+use Rattle.theory.specs.Tasks.{deadline-of}
+use Rattle.sheet.specs.Constants.{most-tasks}
+use Rattle.sheet.specs.Tasks.{task-in, no-record, records-of, set-with}
+use Rattle.sheet.specs.Admission.{decided}
+use Rattle.sheet.specs.Reading.{sheet-checks, policy-of, tasks-of}
+use Rattle.sheet.specs.declared.Task.{Task as Record}
+use Rattle.sheet.specs.declared.TaskSet.{TaskSet}
+use Rattle.sheet.specs.declared.Refusal.{Refusal}
+use Rattle.sheet.specs.declared.Answer.{Answer}
+use Rattle.sheet.specs.declared.Answer.the-variants.{Admitted, Refused}
+use Rattle.admission.specs.Judged.{judged}
+use Rattle.admission.specs.declared.Judged.{Judged}
+use Rattle.admission.proofs.Answers.{judged-tells}
+use Rattle.reader.specs.Sheets.{sheet-judged}
+use Rattle.order.specs.Ordered.{ordered}
+use Rattle.order.specs.declared.Ordered.{Ordered}
+use Rattle.scripts.specs.Reading.{entry-count}
+use Rattle.scripts.specs.Judging.{judgement}
+use Rattle.scripts.specs.declared.Judgement.the-variants.{Sound, Malformed, Unsound}
+use Rattle.player.specs.Inside.Staging.{deadlines-in, cast-for, not-staged, staged-by, set-staged, answer-staged, sheet-staged, said}
+use Rattle.player.specs.declared.PlayRefusal.the-variants.{Own, Script, Item}
+use Rattle.player.specs.declared.Readiness.the-variants.{Playable}
+use Rattle.player.specs.declared.Staged.{Staged}
+use Rattle.player.specs.declared.course.Cast.{Cast}
+use Rattle.player.specs.declared.Played.the-variants.{Missed, Done}
+use Rattle.player.specs.declared.course.End.{End}
+
+module _ (end : End) where
+  pub said-missed : end .task < most-tasks → Missed (end .tick) (end .task) ≡ said end
+  unfolding said
+  said-missed h = rw (lt-ltb (end .task) most-tasks h)
+
+  pub said-done : most-tasks ≤ end .task → Done (end .tick) ≡ said end
+  unfolding said
+  said-done h = rw (le-ltb (end .task) most-tasks h)
+
+-- ---- the deadlines
+
+module _ (records : List Record) (room : length records ≡ most-tasks) (memory : List ℕ) (memory-room : length memory ≡ most-tasks) where
+  many : length (deadlines-in records) ≡ most-tasks
+  many = length-map records (λ r. deadline-of (task-in r) 0) ∙ room
+
+  pub deadline-laid : (i : ℕ) → i < most-tasks → (d : ℕ) → d ≡ deadline-of (task-in (getD records i no-record)) 0
+      → set (laid-to (deadlines-in records) memory i) i d ≡ laid-to (deadlines-in records) memory (i + 1)
+  deadline-laid i h d e =
+      rw (e, ← List·getD-map (λ r. deadline-of (task-in r) 0) records i no-record) (laid-more (deadlines-in records) memory i _ (omega (arith, many)) (omega arith))
+
+  pub deadlines-laid : laid-to (deadlines-in records) memory most-tasks ≡ deadlines-in records
+  unfolding laid
+  deadlines-laid =
+      let all : take most-tasks (deadlines-in records) ≡ deadlines-in records = take-all most-tasks (deadlines-in records) (omega (arith, many)) in
+      laid-all (deadlines-in records) memory most-tasks (ap length all ∙ many)
+      ∙ ap (λ l. laid l memory) all
+      ∙ ap (λ l. deadlines-in records ++ l) (drop-of-length-le memory {i = length (deadlines-in records)} (omega (arith, many)))
+      ∙ append-nil (deadlines-in records)
+
+-- ---- the cast
+
+pub cast-is : (set : TaskSet) (bytes : List ℕ) (o : Ordered) (entries : ℕ) (deadlines : List ℕ) → o ≡ ordered set → entries ≡ entry-count bytes (o .count)
+    → deadlines ≡ deadlines-in (set .tasks)
+    → _≡_ {A = Cast} (record { count = o .count; entries = entries; order = o .numbers; deadlines = deadlines }) (cast-for set bytes)
+unfolding cast-for ordered
+cast-is set bytes o entries deadlines eo ee ed = rw (ed, ee, eo) refl
+
+-- ---- readiness
+
+module _ (set : TaskSet) (bytes : List ℕ) where
+  pub staged-malformed : judgement (map task-in (records-of set)) bytes ≡ Malformed → not-staged Script ≡ set-staged set bytes
+  unfolding set-staged staged-by
+  staged-malformed e = rw e
+
+  pub staged-unsound : (j : ℕ) → judgement (map task-in (records-of set)) bytes ≡ Unsound j → not-staged (Item j) ≡ set-staged set bytes
+  unfolding set-staged staged-by
+  staged-unsound j e = rw e
+
+  pub staged-sound : judgement (map task-in (records-of set)) bytes ≡ Sound → _≡_ {A = Staged} (record { readiness = Playable; cast = cast-for set bytes }) (set-staged set bytes)
+  unfolding set-staged staged-by
+  staged-sound e = rw e
+
+judged-set : (a : Answer) (s : TaskSet) → a ≡ Admitted → judged a s .set ≡ s
+unfolding judged
+judged-set a s e = rw e
+
+-- a sheet that is refused, and one that is admitted
+module _ (sheet bytes : List ℕ) (j : Judged) (is : j ≡ sheet-judged sheet) where
+  judged-is : sheet-judged sheet ≡ judged (decided (sheet-checks sheet)) (set-with (policy-of sheet) (tasks-of sheet))
+  unfolding sheet-judged
+  judged-is = refl
+
+  pub sheet-refused : (why : Refusal) → j .answer ≡ Refused why → not-staged (Own why) ≡ sheet-staged sheet bytes
+  unfolding sheet-staged answer-staged
+  sheet-refused why e = rw (judged-tells j _ _ _ (is ∙ judged-is) e)
+
+  pub sheet-admitted : j .answer ≡ Admitted → set-staged (j .set) bytes ≡ sheet-staged sheet bytes
+  unfolding sheet-staged answer-staged
+  sheet-admitted e = let d = judged-tells j _ _ _ (is ∙ judged-is) e in rw d (ap (λ t. set-staged t bytes) (ap (λ x. x .set) (is ∙ judged-is) ∙ judged-set _ _ d))

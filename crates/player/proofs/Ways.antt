@@ -1,0 +1,334 @@
+-- A sheet and a script: they are turned away as the order of the checks says, or the cast plays the sheet's script.
+use mathlib.Core.Bool.{true, false}
+use mathlib.Core.List.{List, [], _∷_, _++_, map, List·Memᴰ, List·Memᴰ·cases-cons, List·Memᴰ·not-nil}
+use mathlib.Core.Logic.{_⊎_, inl, inr}
+use mathlib.Core.Option.{Option, none, some, Option·getD}
+use mathlib.Core.Path.{_≡_, refl, sym, ap, subst, _∙_}
+use Prim.Native.Nat.{ℕ, suc, _+_, _-_, _≤_, _<_}
+use native.Mathlib.Decide.{decLt}
+use native.Mathlib.Nat.{le-refl}
+use native.Mathlib.Omega.{arith}
+use lib.ListN.{length, getD, take, replicate, length-map, length-append, List·getD-map, List·getD-append}
+use lib.Seq.{take-at}
+use Rattle.lent.specs.Checks.{first-refusal}
+use Rattle.lent.specs.Lent.{laid}
+use Rattle.lent.proofs.Lent.{by-checks, by-room, done, turned-tells, done-tells}
+use Rattle.theory.specs.Tasks.{Task, task-at, deadline-of}
+use Rattle.theory.proofs.Search.{Answer, answer, nothing, it-is, first-some}
+use Rattle.sheet.specs.Constants.{most-tasks, greatest-time}
+use Rattle.sheet.specs.Tasks.{task-in, record-of, records-of, set-with, blank-record}
+use Rattle.sheet.specs.declared.Task.{Task as Record}
+use Rattle.sheet.specs.Admission.{decided}
+use Rattle.sheet.specs.Reading.{sheet-checks, policy-of, tasks-of}
+use Rattle.sheet.specs.declared.TaskSet.{TaskSet}
+use Rattle.sheet.specs.declared.Refusal.{Refusal}
+use Rattle.sheet.specs.declared.Refusal.the-variants.{Room}
+use Rattle.sheet.specs.declared.Answer.the-variants.{Admitted, Refused}
+use Rattle.sheet.proofs.Records.{task-in-record, tasks-with}
+use Rattle.sheet.proofs.Carried.{Carried, carried-fit, reading-answer, by-reading}
+use Rattle.sheet.proofs.Analysable.{each-at, admitted-sheet-is-admitted}
+use Rattle.order.specs.Order.{priority-order}
+use Rattle.order.specs.Ordered.{order-of, ordered}
+use Rattle.order.proofs.Records.{any-default}
+use Rattle.order.proofs.Order.{order-length, order-permutes}
+use Rattle.plays.specs.Items.{item-checks}
+use Rattle.plays.specs.Script.{Script, no-entry}
+use Rattle.plays.specs.declared.Entry.{Entry}
+use Rattle.plays.specs.Play.{task-misses, misser, end-of-play, shown-from}
+use Rattle.scripts.specs.Reading.{script-in, well-made, entry-at, entry-count}
+use Rattle.scripts.specs.Writing.{Fits}
+use Rattle.scripts.proofs.Entries.{count-of-entries, entry-is}
+use Rattle.scripts.proofs.RoundTrip.{numbers-fit}
+use Rattle.scripts.specs.Judging.{judged-by, judged, judgement}
+use Rattle.scripts.specs.declared.Judgement.{Judgement}
+use Rattle.scripts.specs.declared.Judgement.the-variants.{Malformed}
+use Rattle.player.specs.Answers.{order-in, script-for, play-checks, ended, stops-at, play-end, played, tracing, traced, trace-left}
+use Rattle.player.specs.Inside.Course.{Ready, Stage, the-end, shown-on}
+use Rattle.player.specs.Inside.Staging.{deadlines-in, cast-for, not-staged, staged-by, set-staged, answer-staged, sheet-staged, said}
+use Rattle.player.specs.declared.PlayRefusal.{PlayRefusal}
+use Rattle.player.specs.declared.PlayRefusal.the-variants.{Own, Script as ill-made, Item}
+use Rattle.player.specs.declared.Readiness.the-variants.{Playable, Unplayable}
+use Rattle.player.specs.declared.Played.the-variants.{TurnedAway}
+use Rattle.player.specs.declared.Staged.{Staged}
+use Rattle.player.specs.declared.course.Cast.{Cast}
+use Rattle.player.specs.declared.course.End.{End}
+use Rattle.player.proofs.Staging.{said-missed, said-done}
+use Rattle.player.proofs.Playing.{shown-length}
+use Rattle.player.proofs.Turned.{Told, by-sheet, by-form, by-item, by-nothing, told}
+
+-- every frame of a task has the task's one deadline
+one-deadline : (t : Task) (k : ℕ) → deadline-of t k ≡ t .deadline
+unfolding deadline-of
+one-deadline t k = refl
+
+-- what is true of each entry by its index is true of each member
+member-by-index : (P : Entry → Type 0) (es : List Entry) → ((j : ℕ) → j < length es → P (getD es j no-entry)) → (e : Entry) → List·Memᴰ e es → P e
+member-by-index P [] h e m = absurd (List·Memᴰ·not-nil m)
+member-by-index P (x ∷ es) h e m = go (List·Memᴰ·cases-cons m) (member-by-index P es (λ j l. h (suc j) (omega arith)) e)
+  where
+    go : (e ≡ x) ⊎ List·Memᴰ e es → (List·Memᴰ e es → P e) → P e
+    go (inl same) later = subst P (sym same) (h 0 (omega arith))
+    go (inr m) later = later m
+
+abbrev due : Record → ℕ
+due r = deadline-of (task-in r) 0
+
+never-both : {r : PlayRefusal} → Playable ≡ Unplayable r → ⊥
+never-both e = let z : _≡_ {A = ℕ} 0 1 = cc in omega arith
+
+unplayable-one : {q r : PlayRefusal} → Unplayable q ≡ Unplayable r → q ≡ r
+unplayable-one e = cc
+
+-- ---- which way
+
+module _ (sheet bytes : List ℕ) where
+  abbrev tasks : List Task
+  tasks = tasks-of sheet
+
+  abbrev n : ℕ
+  n = length tasks
+
+  abbrev set : TaskSet
+  set = set-with (policy-of sheet) tasks
+
+  -- what is known of a sheet and a script that are not turned away
+  pub record Playing : Type 0 where
+    pub admitted : decided (sheet-checks sheet) ≡ Admitted
+    pub made : well-made n bytes ≡ true
+    pub kept : first-refusal (item-checks tasks (script-in n bytes)) ≡ none
+
+  pub data Way : Type 0 where
+    turned : (r : PlayRefusal) → first-refusal (play-checks sheet bytes) ≡ some r → sheet-staged sheet bytes ≡ not-staged r → Way
+    plays : first-refusal (play-checks sheet bytes) ≡ none → Playing
+        → _≡_ {A = Staged} (sheet-staged sheet bytes) (record { readiness = Playable; cast = cast-for (set-with (policy-of sheet) (tasks-of sheet)) bytes }) → Way
+
+  -- nothing turns them away
+  pub is-playing : first-refusal (play-checks sheet bytes) ≡ none → Playing
+  unfolding decided script-for
+  is-playing e = go (subst (Told sheet bytes) e (told sheet bytes))
+    where
+      go : Told sheet bytes none → Playing
+      go (by-nothing s w f) = record { admitted = rw s; made = w; kept = f }
+
+  its-tasks : map task-in (records-of set) ≡ tasks
+  its-tasks = tasks-with (policy-of sheet) tasks
+
+  staged-set : {j : Judgement} → decided (sheet-checks sheet) ≡ Admitted → judgement tasks bytes ≡ j → sheet-staged sheet bytes ≡ staged-by j set bytes
+  unfolding sheet-staged answer-staged set-staged
+  staged-set a e = rw (a, its-tasks, e)
+
+  refused-staged : {why : Refusal} → decided (sheet-checks sheet) ≡ Refused why → sheet-staged sheet bytes ≡ not-staged (Own why)
+  unfolding sheet-staged answer-staged
+  refused-staged a = rw a
+
+  judged-ill : well-made n bytes ≡ false → judgement tasks bytes ≡ Malformed
+  unfolding judgement
+  judged-ill e = rw e
+
+  judged-well : {o : Option ℕ} → well-made n bytes ≡ true → first-refusal (item-checks tasks (script-in n bytes)) ≡ o → judgement tasks bytes ≡ judged-by o
+  unfolding judgement judged
+  judged-well e f = rw (e, f)
+
+  pub way : Way
+  unfolding decided script-for staged-by
+  way = go (first-refusal (play-checks sheet bytes)) refl (told sheet bytes)
+    where
+      go : (o : Option PlayRefusal) → first-refusal (play-checks sheet bytes) ≡ o → Told sheet bytes o → Way
+      go _ e (by-sheet why s) = turned (Own why) e (refused-staged (rw s))
+      go _ e (by-form s w) = turned ill-made e (staged-set (rw s) (judged-ill w))
+      go _ e (by-item j s w f) = turned (Item j) e (staged-set (rw s) (judged-well w f))
+      go _ e (by-nothing s w f) = plays e (is-playing e) (staged-set (rw s) (judged-well w f))
+
+  -- ---- the stage of a sheet and a script that are not turned away
+
+  module _ (playing : Playing) where
+    carried : Carried (policy-of sheet) tasks
+    carried = by-reading sheet (reading-answer sheet ∙ playing .admitted)
+
+    abbrev order : List ℕ
+    order = priority-order (policy-of sheet) tasks
+
+    abbrev sc : Script
+    sc = script-in n bytes
+
+    abbrev cast : Cast
+    cast = cast-for set bytes
+
+    order-is : order-of set ≡ order
+    unfolding order-of set-with
+    order-is = ap (priority-order (policy-of sheet)) its-tasks
+
+    count-is : cast .count ≡ n
+    unfolding cast-for
+    count-is = ap length order-is ∙ order-length (policy-of sheet) tasks
+
+    -- the numbers of the cast are those of the priority order
+    played-order : take (cast .count) (cast .order) ≡ order
+    unfolding cast-for ordered
+    played-order = take-at (order-of set) _ (length (order-of set)) refl ∙ order-is
+
+    entries-are : cast .entries ≡ length (sc .entries)
+    unfolding cast-for
+    entries-are = ap (entry-count bytes) count-is ∙ count-of-entries n bytes (playing .made)
+
+    fits : Fits n sc
+    fits = numbers-fit n bytes
+
+    ready : Ready order tasks sc
+    ready =
+        record {
+          permutes = order-permutes (policy-of sheet) tasks;
+          admitted = admitted-sheet-is-admitted sheet (reading-answer sheet ∙ playing .admitted);
+          few = carried .few-tasks;
+          as-many = fits .as-many;
+          kept = playing .kept;
+          ticks-in = member-by-index (λ e. e .tick ≤ greatest-time) (sc .entries) (λ j h. fits .entries-fit j h .tick-fits);
+          deadlines-in = λ i k h. rw (one-deadline (task-at tasks i) k) (omega (arith, each-at (carried-fit carried) i h .deadline-fits));
+        }
+
+    its-deadlines : (i k : ℕ) → i < n → getD (cast .deadlines) i 0 ≡ deadline-of (task-at tasks i) k
+    unfolding cast-for set-with task-at
+    its-deadlines i k h =
+        let t : Task = record { period = 0; deadline = 0; lock = 0; frames = [] } in
+        let records = map record-of tasks ++ replicate (most-tasks - n) blank-record in
+        let there : i < length (map record-of tasks) = omega (arith, length-map tasks record-of) in
+        let all : length (map due records) ≡ length records = length-map records due in
+        let long : length records ≡ length (map record-of tasks) + length (replicate (most-tasks - n) blank-record) = length-append (map record-of tasks) (replicate (most-tasks - n) blank-record) in
+        any-default (map due records) i 0 (due (record-of t)) (omega arith)
+        ∙ List·getD-map due records i (record-of t)
+        ∙ ap due (List·getD-append (map record-of tasks) _ (record-of t) i there ∙ List·getD-map record-of tasks i t)
+        ∙ ap (λ u. deadline-of u 0) (task-in-record (task-at tasks i))
+        ∙ one-deadline (task-at tasks i) 0
+        ∙ sym (one-deadline (task-at tasks i) k)
+
+    -- the script is one of which no item is turned away
+    pub is-ready : Ready (order-in sheet) (tasks-of sheet) (script-for sheet bytes)
+    unfolding order-in script-for
+    is-ready = ready
+
+    -- the cast plays the script
+    pub stage-facts : Stage bytes (cast-for (set-with (policy-of sheet) (tasks-of sheet)) bytes)
+    stage-facts =
+        record {
+          tasks = tasks;
+          sc = sc;
+          ready = rw played-order ready;
+          count-is = count-is;
+          entries-are = entries-are;
+          entry-is = λ j h. ap (λ m. entry-at bytes m j) count-is ∙ entry-is n bytes (playing .made) j h;
+          due-in = its-deadlines;
+        }
+
+    -- the end that it says is that of the sheet's run
+    abbrev end-by : List ℕ → End
+    end-by o = let t = end-of-play o tasks sc in record { tick = t; task = Option·getD (misser o tasks sc t) most-tasks }
+
+    says-end : said (end-by order) ≡ ended (end-of-play order tasks sc) (misser order tasks sc (end-of-play order tasks sc))
+    unfolding ended misser
+    says-end = go (answer (misser order tasks sc (end-of-play order tasks sc)))
+      where
+        go : Answer (misser order tasks sc (end-of-play order tasks sc))
+            → said (end-by order) ≡ ended (end-of-play order tasks sc) (misser order tasks sc (end-of-play order tasks sc))
+        go (nothing q) = rw q (sym (said-done _ (le-refl most-tasks)))
+        go (it-is i q) =
+            let in-set = first-some 0 n (task-misses order tasks sc (end-of-play order tasks sc)) q .before in
+            rw q (sym (said-missed _ (omega (arith, carried .few-tasks))))
+
+    end-is-by : the-end stage-facts ≡ end-by order
+    unfolding stage-facts
+    end-is-by = ap end-by played-order
+
+    pub end-said : said (the-end stage-facts) ≡ play-end sheet bytes
+    unfolding play-end stops-at order-in script-for
+    end-said = ap said end-is-by ∙ says-end
+
+    -- it stops when the sheet's run does
+    pub end-stops : the-end stage-facts .tick ≡ stops-at sheet bytes
+    unfolding stops-at order-in script-for
+    end-stops = ap (λ e. e .tick) end-is-by
+
+    -- and its bytes are those of the trace
+    pub bytes-traced : shown-on stage-facts (the-end stage-facts .tick) ≡ tracing sheet bytes .writes
+    unfolding tracing stops-at order-in script-for stage-facts
+    bytes-traced = ap (λ o. shown-from o tasks sc 0 (end-of-play o tasks sc)) played-order
+
+-- ---- what the entries answer
+
+module _ (sheet bytes : List ℕ) where
+  -- the cast plays
+  pub record Plays (cast : Cast) : Type 0 where
+    pub no-refusal : first-refusal (play-checks sheet bytes) ≡ none
+    pub stage : Stage bytes cast
+    pub ends : said (the-end stage) ≡ play-end sheet bytes
+    pub stops : the-end stage .tick ≡ stops-at sheet bytes
+    pub traces : shown-on stage (the-end stage .tick) ≡ tracing sheet bytes .writes
+
+  -- a cast and a readiness that are those of the sheet and the script
+  module _ (staged : Staged) (is : staged ≡ sheet-staged sheet bytes) where
+    pub turned-away : (r : PlayRefusal) → staged .readiness ≡ Unplayable r → first-refusal (play-checks sheet bytes) ≡ some r
+    turned-away r e = go (way sheet bytes)
+      where
+        go : Way sheet bytes → first-refusal (play-checks sheet bytes) ≡ some r
+        go (turned q f s) = let same : Unplayable q ≡ Unplayable r = sym (ap (λ x. x .readiness) (is ∙ s)) ∙ e in f ∙ ap some (unplayable-one same)
+        go (plays f p s) = absurd (never-both (sym (ap (λ x. x .readiness) (is ∙ s)) ∙ e))
+
+    pub is-played : staged .readiness ≡ Playable → Plays (staged .cast)
+    is-played e = go (way sheet bytes)
+      where
+        go : Way sheet bytes → Plays (staged .cast)
+        go (turned q f s) = absurd (never-both (sym e ∙ ap (λ x. x .readiness) (is ∙ s)))
+        go (plays f p s) = subst Plays (sym (ap (λ x. x .cast) (is ∙ s))) (record { no-refusal = f; stage = stage-facts sheet bytes p; ends = end-said sheet bytes p; stops = end-stops sheet bytes p; traces = bytes-traced sheet bytes p })
+
+  pub played-turned : {r : PlayRefusal} → first-refusal (play-checks sheet bytes) ≡ some r → TurnedAway r ≡ played sheet bytes
+  unfolding played
+  played-turned e = rw (e, played)
+
+  pub played-ends : first-refusal (play-checks sheet bytes) ≡ none → play-end sheet bytes ≡ played sheet bytes
+  unfolding played
+  played-ends e = rw (e, played)
+
+  -- ---- a trace
+
+  module _ (room : List ℕ) where
+    pub trace-turned : {r : PlayRefusal} → first-refusal (play-checks sheet bytes) ≡ some r → (TurnedAway r ≡ traced sheet bytes room) × (room ≡ trace-left sheet bytes room)
+    unfolding traced trace-left tracing
+    trace-turned {r} e = turned-tells (Own Room) TurnedAway (tracing sheet bytes) room (by-checks (Own Room) TurnedAway (tracing sheet bytes) room r e)
+
+    module _ {cast : Cast} (p : Plays cast) where
+      ticks-many : length (tracing sheet bytes .writes) ≡ the-end (p .stage) .tick
+      ticks-many = sym (ap length (p .traces)) ∙ shown-length _ _ _ 0 (the-end (p .stage) .tick)
+
+      pub trace-short : length room < the-end (p .stage) .tick → (TurnedAway (Own Room) ≡ traced sheet bytes room) × (room ≡ trace-left sheet bytes room)
+      unfolding traced trace-left tracing
+      trace-short h =
+          turned-tells (Own Room) TurnedAway (tracing sheet bytes) room (by-room (Own Room) TurnedAway (tracing sheet bytes) room (p .no-refusal) (omega (arith, ticks-many)))
+
+      pub trace-done : the-end (p .stage) .tick ≤ length room
+          → (play-end sheet bytes ≡ traced sheet bytes room) × (laid (shown-on (p .stage) (the-end (p .stage) .tick)) room ≡ trace-left sheet bytes room)
+      unfolding traced trace-left tracing
+      trace-done h =
+          let d = done-tells (Own Room) TurnedAway (tracing sheet bytes) room (done (Own Room) TurnedAway (tracing sheet bytes) room (p .no-refusal) (omega (arith, ticks-many))) in
+          (d .0, ap (λ l. laid l room) (p .traces) ∙ d .1)
+
+    -- a trace is turned away as a play is, or for want of room for a byte of each tick, or it answers as the play does; there is no other way
+    pub data Traced : Type 0 where
+      not-played : (r : PlayRefusal) → first-refusal (play-checks sheet bytes) ≡ some r → traced sheet bytes room ≡ TurnedAway r → trace-left sheet bytes room ≡ room → Traced
+      no-room : first-refusal (play-checks sheet bytes) ≡ none → length room < stops-at sheet bytes
+          → traced sheet bytes room ≡ TurnedAway (Own Room) → trace-left sheet bytes room ≡ room → Traced
+      is-traced : first-refusal (play-checks sheet bytes) ≡ none → stops-at sheet bytes ≤ length room → traced sheet bytes room ≡ play-end sheet bytes
+          → trace-left sheet bytes room ≡ laid (shown-from (order-in sheet) (tasks-of sheet) (script-for sheet bytes) 0 (stops-at sheet bytes)) room → Traced
+
+    pub trace-way : Traced
+    unfolding traced trace-left tracing
+    trace-way = go (first-refusal (play-checks sheet bytes)) refl
+      where
+        long : length (tracing sheet bytes .writes) ≡ stops-at sheet bytes
+        long = shown-length _ _ _ 0 (stops-at sheet bytes)
+
+        by-length : first-refusal (play-checks sheet bytes) ≡ none → Dec (length room < stops-at sheet bytes) → Traced
+        by-length e (yes h) = let t = by-room (Own Room) TurnedAway (tracing sheet bytes) room e (omega (arith, long)) in no-room e h (t .answer) (t .unchanged)
+        by-length e (no h) = let d = done (Own Room) TurnedAway (tracing sheet bytes) room e (omega (arith, long)) in is-traced e (omega arith) (d .answer) (d .holds)
+
+        go : (o : Option PlayRefusal) → first-refusal (play-checks sheet bytes) ≡ o → Traced
+        go none e = by-length e (decLt (length room) (stops-at sheet bytes))
+        go (some r) e = let t = by-checks (Own Room) TurnedAway (tracing sheet bytes) room r e in not-played r e (t .answer) (t .unchanged)

@@ -1,0 +1,3 @@
+-- Definitions that only private contracts use.
+pub mod Course
+pub mod Staging

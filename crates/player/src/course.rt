@@ -1,0 +1,186 @@
+// The course of a play, moment by moment: misses, releases, pick, tick.
+ghost use mathlib.Core.Path.{_≡_};
+ghost use Prim.Native.Nat.{ℕ, _≤_, _<_};
+ghost use lib.ListN.{length, getD};
+ghost use Rattle.sheet.specs.Constants.{most-tasks};
+ghost use Rattle.lent.specs.Lent.{laid};
+ghost use Rattle.player.specs.Inside.Course.{upcoming, Stage, Going, Gone, Calmly, Chosen, with-picked, after-tick, done-with, the-end, Traceable, shown-on};
+use crate::state::Player;
+use plays::Entry;
+use sheet::Sheet;
+
+// Who plays: how many tasks and entries there are, the task numbers in priority order, and the deadline of each task.
+pub struct Cast {
+    pub count: u32,
+    pub entries: u32,
+    pub order: [u32; Sheet::TASK_ROOM],
+    pub deadlines: [u32; Sheet::TASK_ROOM],
+}
+
+// How far a play has come: the state, how many entries were released, and the next one.
+pub struct Progress {
+    pub player: Player,
+    pub released: u32,
+    pub next: Entry,
+}
+
+// How a play ended: the moment, and the task that misses (16: none, all jobs are done).
+pub struct End {
+    pub tick: u32,
+    pub task: u32,
+}
+
+// Later than every tick of a script.
+const NEVER: u32 = 0xFFFF_FFFF;
+
+// The last moment at which a play can end: a job is released by the greatest time, and misses that much later.
+const LAST_MOMENT: u32 = 2 * Sheet::GREATEST_TIME;
+
+// Entry j, or one that is never released where there is none.
+fn upcoming(script: &[u8], cast: Cast, j: u32) -> Entry
+    ensures { λ r. ⌜ r ≡ upcoming (now (script .entry)) cast j ⌝ }
+{
+    if j < cast.entries {
+        return scripts::entry_at(script, cast.count, j);
+    }
+    Entry {
+        task: 0,
+        tick: NEVER,
+        work: 0,
+        lock: 0,
+    }
+}
+
+// Before the first tick.
+pub fn start(script: &[u8], cast: Cast) -> Progress
+    requires { ⌜ Stage (now script) cast ⌝ }
+    ensures { λ r. ⌜ ((stage : Stage (now (script .entry)) cast) → Going stage 0 r) ⌝ }
+{
+    Progress {
+        player: Player::start(),
+        released: 0,
+        next: upcoming(script, cast, 0),
+    }
+}
+
+// The releases of a tick.
+fn releases(script: &[u8], cast: Cast, at: Progress, moment: u32) -> Progress
+    requires { ⌜ Calmly (now script) cast moment at ⌝ }
+    ensures { λ r. ⌜ ((on : Calmly (now (script .entry)) cast moment at) → Gone (on .stage) moment r) ⌝ }
+{
+    let deadlines = cast.deadlines;
+    let mut player = at.player;
+    let mut released = at.released;
+    let mut next = at.next;
+    while next.tick == moment {
+        let i = next.task as usize;
+        let then = player.release(next, deadlines[i]);
+        player = then;
+        released += 1;
+        next = upcoming(script, cast, released);
+    }
+    Progress {
+        player,
+        released,
+        next,
+    }
+}
+
+// The task that has the tick is picked.
+fn picked(cast: Cast, at: Progress) -> Progress
+    requires { ⌜ (cast .count ≤ most-tasks) × ((p : ℕ) → p < cast .count → getD (cast .order) p 0 < most-tasks) ⌝ }
+    ensures { λ r. ⌜ r ≡ with-picked cast at ⌝ }
+{
+    let player = at.player;
+    let order = cast.order;
+    let then = player.pick(order, cast.count as usize);
+    let next = at.next;
+    Progress {
+        player: then,
+        released: at.released,
+        next,
+    }
+}
+
+// The releases of a tick are seen, and the task that has the tick is picked.
+pub fn seen(script: &[u8], cast: Cast, at: Progress, moment: u32) -> Progress
+    requires { ⌜ Calmly (now script) cast moment at ⌝ }
+    ensures { λ r. ⌜ ((on : Calmly (now (script .entry)) cast moment at) → Chosen (on .stage) moment r) ⌝ }
+{
+    let next = at.next;
+    // most ticks have no release
+    if next.tick != moment {
+        return picked(cast, at);
+    }
+    picked(cast, releases(script, cast, at, moment))
+}
+
+// The tick is given.
+pub fn ticked(at: Progress) -> Progress
+    ensures { λ r. ⌜ r ≡ after-tick at ⌝ }
+{
+    let player = at.player;
+    let then = player.tick();
+    let next = at.next;
+    Progress {
+        player: then,
+        released: at.released,
+        next,
+    }
+}
+
+// All jobs are done: every entry is released, and no task has the tick.
+fn all_done(at: Progress, entries: u32) -> bool
+    ensures { λ r. ⌜ r ≡ done-with entries at ⌝ }
+{
+    if at.released < entries {
+        return false;
+    }
+    let player = at.player;
+    Sheet::MOST_TASKS <= player.picked
+}
+
+// The play, tick by tick, up to the first miss or until all jobs are done.
+pub fn play_on(script: &[u8], cast: Cast) -> End
+    requires { ⌜ Stage (now script) cast ⌝ }
+    ensures { λ r. ⌜ ((stage : Stage (now (script .entry)) cast) → r ≡ the-end stage) ⌝ }
+{
+    let mut at = start(script, cast);
+    let mut moment: u32 = 0;
+    while moment <= LAST_MOMENT {
+        let player = at.player;
+        let task = player.misser(cast.count as usize, moment);
+        if task < Sheet::MOST_TASKS {
+            return End { tick: moment, task };
+        }
+        let then = seen(script, cast, at, moment);
+        if all_done(then, cast.entries) {
+            return End {
+                tick: moment,
+                task: Sheet::MOST_TASKS,
+            };
+        }
+        at = ticked(then);
+        moment += 1;
+    }
+    End {
+        tick: 0,
+        task: Sheet::MOST_TASKS,
+    }
+}
+
+// What each tick of the play shows, a byte each.
+pub fn trace_on(script: &[u8], cast: Cast, end: u32, ticks: &mut [u8])
+    requires { ⌜ Traceable (now script) cast end (length (now ticks)) ⌝ }
+    ensures { λ _. ⌜ ((stage : Stage (now (script .entry)) cast) → now (ticks .exit) ≡ laid (shown-on stage end) (now (ticks .entry))) ⌝ }
+{
+    let mut at = start(script, cast);
+    let mut moment: u32 = 0;
+    while moment < end {
+        let then = seen(script, cast, at, moment);
+        let player = then.player;
+        ticks[moment as usize] = player.shown();
+        at = ticked(then);
+        moment += 1;
+    }
+}

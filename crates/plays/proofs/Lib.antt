@@ -1,0 +1,20 @@
+-- The theorems on scripts and plays are in ScriptLegal, Refused, OnePending, PlayEnds, PlaySays, WorstPlayed, WorstSound and WorstMiss; the rest stands below these.
+pub mod ScriptLegal
+pub mod Refused
+pub mod OnePending
+pub mod PlayEnds
+pub mod PlaySays
+pub mod WorstPlayed
+pub mod WorstSound
+pub mod WorstMiss
+pub mod States
+pub mod ScriptLanes
+pub mod Courses
+pub mod ScriptFacts
+pub mod AllDone
+pub mod Rows
+pub mod SameStates
+pub mod WorstEntries
+pub mod WorstLanes
+pub mod WorstCount
+pub mod Examples

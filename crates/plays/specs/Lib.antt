@@ -1,0 +1,8 @@
+-- Run scripts: what they are, what is turned away of them, the run that a script stands for, and how its play ends, in reading order.
+pub mod Script
+pub mod Items
+pub mod ScriptRun
+pub mod Broken
+pub mod Play
+pub mod Says
+pub mod WorstScript

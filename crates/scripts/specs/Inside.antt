@@ -1,0 +1,2 @@
+-- Definitions that only private contracts use.
+pub mod Steps

@@ -1,0 +1,59 @@
+-- SCOPE.md, "Run scripts": what a byte string says as a script of n tasks, and whether it is made as a script is.
+use mathlib.Core.Bool.{Bool, not, _&&_, cond}
+use mathlib.Core.List.{List, [], _∷_}
+use Prim.Native.Nat.{ℕ, zero, suc}
+use lib.Dec.{leb, eqb}
+use lib.ListN.{length, getD, drop}
+use Rattle.bits.specs.Packed.{bits-of}
+use Rattle.check_word.specs.Division.{body, sealed}
+use Rattle.records.specs.Rows.{unpacked, total}
+use Rattle.records.specs.Sealed.{sealed-size, some-set}
+use Rattle.plays.specs.Script.{Script, no-entry}
+use Rattle.plays.specs.declared.Entry.{Entry}
+use Rattle.scripts.specs.Format.{first-frame-widths, count-widths, entry-widths, task-field, tick-field, work-field, lock-field, script-width}
+
+-- the first frames of n tasks
+unfoldable pub firsts-in : ℕ → List Bool → List ℕ
+firsts-in n bits = unpacked (first-frame-widths n) bits
+
+-- the count behind them
+unfoldable pub entry-count-in : ℕ → List Bool → ℕ
+entry-count-in n bits = getD (unpacked count-widths (drop (total (first-frame-widths n)) bits)) 0 0
+
+-- the entry of four numbers
+unfoldable pub entry-with : List ℕ → Entry
+entry-with f = record { task = getD f task-field 0; tick = getD f tick-field 0; work = getD f work-field 0; lock = getD f lock-field 0 }
+
+-- the entry at the start of the bits
+unfoldable pub entry-at-start : List Bool → Entry
+entry-at-start bits = entry-with (unpacked entry-widths bits)
+
+-- m entries, one behind the other
+unfoldable pub entries-in : ℕ → List Bool → List Entry
+entries-in zero bits = []
+entries-in (suc m) bits = entry-at-start bits ∷ entries-in m (drop (total entry-widths) bits)
+
+-- the script of n tasks in a byte string
+unfoldable pub script-in : ℕ → List ℕ → Script
+script-in n s =
+    let bits = bits-of (body s) in
+    record { firsts = firsts-in n bits; entries = entries-in (entry-count-in n bits) (drop (script-width n 0) bits) }
+
+-- the bits of n first frames, the count and m entries are there
+unfoldable pub there : ℕ → ℕ → List ℕ → Bool
+there n m s = leb (script-width n m) (length (bits-of (body s)))
+
+-- how many entries there are; none where the count is not there
+unfoldable pub entry-count : List ℕ → ℕ → ℕ
+entry-count s n = cond (there n 0 s) (entry-count-in n (bits-of (body s))) 0
+
+-- entry j; a blank one where its bits are not there
+unfoldable pub entry-at : List ℕ → ℕ → ℕ → Entry
+entry-at s n j = cond (there n (suc j) s) (entry-at-start (drop (script-width n j) (bits-of (body s)))) no-entry
+
+-- a byte string is made as the script of n tasks is: its count is there, its length is that of so many entries, its check word is right, and no fill bit is set
+unfoldable pub well-made : ℕ → List ℕ → Bool
+well-made n s =
+    let bits = bits-of (body s) in
+    let width = script-width n (entry-count-in n bits) in
+    there n 0 s && eqb (length s) (sealed-size width) && sealed s && not (some-set (drop width bits))

@@ -1,0 +1,3 @@
+-- Definitions that only private contracts use.
+pub mod Plans
+pub mod Steps
