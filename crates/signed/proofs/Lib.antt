@@ -1,4 +1,4 @@
--- The theorems are in Signed; the rest stands below it.
+-- The theorems are in Signed, Plays and WorstRuns; the rest stands below them.
 pub mod Times
 pub mod Numbers
 pub mod Memory
@@ -11,4 +11,7 @@ pub mod Damage
 pub mod Words
 pub mod Report
 pub mod Signed
+pub mod Played
+pub mod Plays
+pub mod WorstRuns
 pub mod Forwarded

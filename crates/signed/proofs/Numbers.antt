@@ -1,12 +1,18 @@
 -- A number says one thing: each answer comes back from its number.
 use mathlib.Core.Bool.{true, false}
+use mathlib.Core.List.{List}
+use mathlib.Core.Logic.{_⊎_, inl, inr}
+use mathlib.Core.Option.{some}
 use mathlib.Core.Path.{_≡_, refl, sym, ap, ap₂, _∙_}
 use Prim.Native.Nat.{ℕ, _+_, _-_, _*_, _/_, _%_, _≤_, _<_}
 use native.Mathlib.Nat.{zero-add, mod-eq-of-lt}
 use native.Mathlib.Omega.{arith}
 use borrow.Author.Tests.{lt-ltb, le-ltb, eq-eqb, ne-eqb}
 use lib.Dec.{eqb, lit<, lit≤}
+use Rattle.lent.specs.Checks.{first-refusal}
+use Rattle.lent.proofs.Checks.{each-first}
 use Rattle.sheet.specs.Constants.{most-tasks}
+use Rattle.sheet.specs.Reading.{sheet-checks}
 use Rattle.sheet.specs.Refusals.{number-of, task-of-refusal, reason-of-refusal}
 use Rattle.sheet.specs.declared.Reason.{Reason}
 use Rattle.sheet.specs.declared.Refusal.{Refusal}
@@ -23,10 +29,15 @@ use Rattle.analysis.specs.declared.Outcome.the-variants.{Refused as not-analyse
 use Rattle.lists.specs.declared.ListRead.{ListRead}
 use Rattle.lists.specs.declared.ListRead.the-variants.{Set}
 use Rattle.lists.specs.declared.ListRead.the-variants.{TurnedAway as not-read}
-use Rattle.workbench.specs.Numbers.{reason-number, refused-number, read-number, written-number, outcome-number}
-use Rattle.workbench.proofs.Small.{NamesBelow}
+use Rattle.player.specs.declared.PlayRefusal.{PlayRefusal}
+use Rattle.player.specs.declared.PlayRefusal.the-variants.{Own}
+use Rattle.player.specs.declared.Played.{Played}
+use Rattle.player.specs.declared.Played.the-variants.{TurnedAway as not-played}
+use Rattle.player.proofs.Within.{RefusalWithin, own-within, script-within, item-within, Within, missed-within, done-within, turned-within}
+use Rattle.workbench.specs.Numbers.{reason-number, refused-number, read-number, written-number, outcome-number, play-refused-number, played-number}
+use Rattle.workbench.proofs.Small.{NamesBelow, names-more, room-names, sheet-names}
 use Rattle.signed.specs.Claims.{missed, refused, said}
-use Rattle.signed.specs.Numbers.{blocker-by, said-by, refusal-by, reason-by, refused-by, list-read-by, written-by, verdict-by, analysed-by, decision-by}
+use Rattle.signed.specs.Numbers.{blocker-by, said-by, refusal-by, reason-by, refused-by, list-read-by, written-by, verdict-by, analysed-by, decision-by, ended-by, play-refused-by, played-by}
 
 -- ---- refusals
 
@@ -195,3 +206,42 @@ decision-back (Missed p b) n (h, few, l) =
     rw (with-none (m + 65536 * n), detail (m + 65536 * n))
     (analysed-back m n (omega arith) l ∙ ap (λ (o : Outcome). record { outcome = o; «task_count» = n }) (miss-back p (blocker-code b) small ∙ ap (Missed p) same))
 decision-back (not-analysed r) n (e, h) = rw (with-refusal r) (ap₂ (λ (q : Refusal) (k : ℕ). record { outcome = not-analysed q; «task_count» = k }) (refused-back r h) (sym e))
+
+-- ---- a play and its trace
+
+-- the moment in thirty-two bits below the task in eight
+module _ (t i : ℕ) (h : t < 4294967296) (l : i < 256) where
+  tick-part : (t + 4294967296 * i) % 4294967296 ≡ t
+  tick-part = omega arith
+
+  task-part : (t + 4294967296 * i) / 4294967296 % 256 ≡ i
+  task-part = let above : (t + 4294967296 * i) / 4294967296 ≡ i = omega arith in ap (λ (x : ℕ). x % 256) above ∙ mod-eq-of-lt l
+
+own-back : (r : Refusal) → NamesSmall r → play-refused-by (refused-number r) ≡ Own r
+unfolding play-refused-by
+own-back r h =
+    let range = refusal-range r in
+    rw (ne-eqb (refused-number r % 256) 13 (omega arith), ne-eqb (refused-number r % 256) 14 (omega arith)) (ap Own (refused-back r h))
+
+module _ (sheet script : List ℕ) where
+  own-small : (why : Refusal) → (first-refusal (sheet-checks sheet) ≡ some why) ⊎ (why ≡ Room) → NamesSmall why
+  own-small why (inl e) = names-more (lit≤ tt) (each-first (NamesBelow 32) (sheet-checks sheet) (sheet-names sheet) why e)
+  own-small why (inr e) = rw e (names-more (lit≤ tt) room-names)
+
+  why-back : (r : PlayRefusal) → RefusalWithin sheet script r → played-by (play-refused-number r) ≡ not-played r
+  unfolding played-by play-refused-by
+  why-back _ (own-within why e) = rw (with-refusal why) (ap not-played (own-back why (own-small why e)))
+  why-back _ script-within = refl
+  why-back _ (item-within j h) =
+      let number : (14 + 256 * j) % 256 ≡ 14 = omega arith in
+      let which : (14 + 256 * j) / 256 ≡ j = omega arith in
+      rw (number, which)
+
+  -- each answer of a play or a trace comes back from its number
+  pub played-back : (p : Played) → Within sheet script p → played-by (played-number p) ≡ p
+  unfolding played-by ended-by
+  played-back _ (missed-within t i h l) =
+      rw (with-none (t + 4294967296 * i), detail (t + 4294967296 * i), tick-part t i (omega arith) (omega arith), task-part t i (omega arith) (omega arith), ne-eqb i 16 (omega arith))
+  played-back _ (done-within t h) =
+      rw (with-none (t + 4294967296 * 16), detail (t + 4294967296 * 16), tick-part t 16 (omega arith) (omega arith), task-part t 16 (omega arith) (omega arith))
+  played-back _ (turned-within r h) = why-back r h

@@ -11,10 +11,14 @@ use Rattle.analysis.specs.declared.Decision.{Decision}
 use Rattle.lists.specs.Faces.{list-read, list-filled, list-written, list-left, list-analysed, list-times}
 use Rattle.lists.specs.declared.ListRead.{ListRead}
 use Rattle.workbench.specs.Entry.{entry-number, entry-left}
-use Rattle.workbench.specs.Numbers.{read-number, written-number, decision-number}
+use Rattle.workbench.specs.Numbers.{read-number, written-number, decision-number, played-number, worst-number}
+use Rattle.worst.specs.Writing.{worst-answer, worst-left}
+use Rattle.worst.specs.declared.Worst.{Worst}
 use Rattle.report_text.specs.Report.{report}
 use Rattle.report_text.specs.Text.{text-of, report-written, report-left}
 use Rattle.report_text.specs.declared.Text.{Text}
+use Rattle.player.specs.Answers.{played, traced, trace-left}
+use Rattle.player.specs.declared.Played.{Played}
 
 -- `analyse_set`: a set by value, its times to lent numbers
 pub record AnalyseSet (set : TaskSet) (before : List ℕ) (answer : Decision) (after : List ℕ) : Type 0 where
@@ -50,13 +54,22 @@ pub record WriteReport (sheet before : List ℕ) (answer : Written) (after : Lis
   pub answers : answer ≡ report-written sheet before
   pub leaves : after ≡ report-left sheet before
 
+-- `play`: a script played for a sheet
+pub record Play (sheet script : List ℕ) (answer : Played) : Type 0 where
+  pub answers : answer ≡ played sheet script
+
+-- `trace`: the same, a byte for each tick to lent bytes
+pub record Trace (sheet script before : List ℕ) (answer : Played) (after : List ℕ) : Type 0 where
+  pub answers : answer ≡ traced sheet script before
+  pub leaves : after ≡ trace-left sheet script before
+
 -- `burrbeech_check_sheet`: a sheet, its times to lent bytes; the answer is a number
 pub record CheckSheetC (sheet before : List ℕ) (number : ℕ) (after : List ℕ) : Type 0 where
   pub answers : number ≡ entry-number sheet before
   pub leaves : after ≡ entry-left sheet before
 
--- `burrbeech_analyse_sheet`, `burrbeech_analyse_list`, `burrbeech_read_list`, `burrbeech_write_list`, `burrbeech_report`: as the calls above,
--- the answer by its number
+-- `burrbeech_analyse_sheet`, `burrbeech_analyse_list`, `burrbeech_read_list`, `burrbeech_write_list`, `burrbeech_report`, `burrbeech_play`,
+-- `burrbeech_trace`: as the calls above, the answer by its number
 pub record AnalyseSheetC (sheet before : List ℕ) (number : ℕ) (after : List ℕ) : Type 0 where
   pub answers : number ≡ decision-number (sheet-decision sheet before)
   pub leaves : after ≡ sheet-left sheet before
@@ -76,3 +89,20 @@ pub record WriteListC (policy : ℕ) (list : List Record) (before : List ℕ) (n
 pub record ReportC (sheet before : List ℕ) (number : ℕ) (after : List ℕ) : Type 0 where
   pub answers : number ≡ written-number (report-written sheet before)
   pub leaves : after ≡ report-left sheet before
+
+pub record PlayC (sheet script : List ℕ) (number : ℕ) : Type 0 where
+  pub answers : number ≡ played-number (played sheet script)
+
+pub record TraceC (sheet script before : List ℕ) (number : ℕ) (after : List ℕ) : Type 0 where
+  pub answers : number ≡ played-number (traced sheet script before)
+  pub leaves : after ≡ trace-left sheet script before
+
+-- `worst_run`: a sheet, its worst run to lent bytes
+pub record WorstRun (sheet before : List ℕ) (answer : Worst) (after : List ℕ) : Type 0 where
+  pub answers : answer ≡ worst-answer sheet before
+  pub leaves : after ≡ worst-left sheet before
+
+-- `burrbeech_worst_run`
+pub record WorstRunC (sheet before : List ℕ) (number : ℕ) (after : List ℕ) : Type 0 where
+  pub answers : number ≡ worst-number (worst-answer sheet before)
+  pub leaves : after ≡ worst-left sheet before

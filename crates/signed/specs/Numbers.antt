@@ -20,6 +20,11 @@ use Rattle.analysis.specs.declared.Decision.{Decision}
 use Rattle.lists.specs.declared.ListRead.{ListRead}
 use Rattle.lists.specs.declared.ListRead.the-variants.{Set}
 use Rattle.lists.specs.declared.ListRead.the-variants.{TurnedAway as not-read}
+use Rattle.player.specs.declared.PlayRefusal.{PlayRefusal}
+use Rattle.player.specs.declared.PlayRefusal.the-variants.{Own, Script, Item}
+use Rattle.player.specs.declared.Played.{Played}
+use Rattle.player.specs.declared.Played.the-variants.{Done}
+use Rattle.player.specs.declared.Played.the-variants.{Missed as first-missed, TurnedAway as not-played}
 use Rattle.signed.specs.Claims.{Said, holds, missed, refused}
 
 -- 16 stands for no blocker
@@ -72,3 +77,17 @@ analysed-by detail = record { outcome = verdict-by (detail % 65536); «task_coun
 
 unfoldable pub decision-by : ℕ → Decision
 decision-by c = cond (eqb (c % 256) 0) (analysed-by (c / 256)) (refused-decision (refused-by c))
+
+-- `burrbeech_play` and `burrbeech_trace`: the tick in thirty-two bits of the detail, in the next eight the task that misses, 16 where all jobs are done
+unfoldable pub ended-by : ℕ → Played
+ended-by detail =
+    let tick = detail % 4294967296 in
+    let task = detail / 4294967296 % 256 in
+    cond (eqb task most-tasks) (Done tick) (first-missed tick task)
+
+-- beside the refusals of every entry 13, and 14 with the item as its detail
+unfoldable pub play-refused-by : ℕ → PlayRefusal
+play-refused-by c = cond (eqb (c % 256) 13) Script (cond (eqb (c % 256) 14) (Item (c / 256)) (Own (refused-by c)))
+
+unfoldable pub played-by : ℕ → Played
+played-by c = cond (eqb (c % 256) 0) (ended-by (c / 256)) (not-played (play-refused-by c))

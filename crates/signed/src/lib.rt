@@ -6,10 +6,12 @@ ghost use Rattle.sheet.specs.Tasks.{task-in};
 ghost use Rattle.sheet.specs.Reading.{policy-of, tasks-of};
 ghost use Rattle.signed.specs.Calls.{ReadList, ReadListC, WriteList, WriteListC, AnalyseList, AnalyseListC};
 ghost use Rattle.signed.specs.Claims.{in-numbers, in-bytes, Signed, OutcomeSigned};
-ghost use Rattle.signed.specs.Numbers.{said-by, written-by, decision-by};
+ghost use Rattle.signed.specs.Numbers.{said-by, written-by, decision-by, played-by};
+ghost use Rattle.signed.specs.Plays.{PlaySigned, TraceSigned};
 ghost use Rattle.signed.specs.Reports.{words-in, said-in, text-in, ReportSigned, ReportLeft};
 use analysis::Decision;
 use lists::ListRead;
+use player::Played;
 use report_text::Text;
 use sheet::Sheet;
 use sheet::Task;
@@ -102,4 +104,28 @@ fn analyse_list_from_c(policy: u32, list: &[Task], times: &mut [u32]) -> u64
     ensures { λ r. ⌜ AnalyseListC policy (now (list .entry)) (now (times .entry)) r (now (times .exit)) ⌝ }
 {
     workbench::burrbeech_analyse_list(policy, list, times)
+}
+
+fn play(sheet: &[u8], script: &[u8]) -> Played
+    ensures { λ r. ⌜ PlaySigned (now (sheet .entry)) (now (script .entry)) r ⌝ }
+{
+    player::play(sheet, script)
+}
+
+fn trace(sheet: &[u8], script: &[u8], ticks: &mut [u8]) -> Played
+    ensures { λ r. ⌜ TraceSigned (now (sheet .entry)) (now (script .entry)) (now (ticks .entry)) r (now (ticks .exit)) ⌝ }
+{
+    player::trace(sheet, script, ticks)
+}
+
+fn play_from_c(sheet: &[u8], script: &[u8]) -> u64
+    ensures { λ r. ⌜ PlaySigned (now (sheet .entry)) (now (script .entry)) (played-by r) ⌝ }
+{
+    workbench::burrbeech_play(sheet, script)
+}
+
+fn trace_from_c(sheet: &[u8], script: &[u8], ticks: &mut [u8]) -> u64
+    ensures { λ r. ⌜ TraceSigned (now (sheet .entry)) (now (script .entry)) (now (ticks .entry)) (played-by r) (now (ticks .exit)) ⌝ }
+{
+    workbench::burrbeech_trace(sheet, script, ticks)
 }

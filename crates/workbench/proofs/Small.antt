@@ -1,6 +1,7 @@
 -- The one number of an answer fits 64 bits: refusals name tasks, frames and lengths below 32, and what else is answered is small.
 use mathlib.Core.Bool.{Bool}
 use mathlib.Core.List.{List, map}
+use mathlib.Core.Logic.{inl, inr}
 use mathlib.Core.Option.{none, some}
 use mathlib.Core.Path.{_≡_, refl, sym, subst, ap, _∙_}
 use Prim.Native.Nat.{ℕ, _≤_, _<_, _^_, min, zero-le}
@@ -18,14 +19,16 @@ use Rattle.records.specs.Rows.{unpacked}
 use Rattle.sheet.specs.Layout.{header-in, behind-header}
 use Rattle.lent.specs.Checks.{Check}
 use Rattle.lent.specs.Lent.{answered}
-use Rattle.lent.proofs.Checks.{Each}
+use Rattle.lent.proofs.Checks.{Each, each-first}
 use Rattle.lent.proofs.Laid.{laid-to-length, laid-most}
 use Rattle.lent.proofs.Lent.{Told, turned-away, is-done, told, each-refusal}
-use Rattle.sheet.specs.Admission.{admission, list-checks, reason-of}
+use Rattle.sheet.specs.Admission.{decided, admission, list-checks, reason-of}
 use Rattle.sheet.specs.Reading.{sheet-checks, policy-of, tasks-of}
 use Rattle.sheet.specs.Writing.{writing, written}
 use Rattle.sheet.specs.declared.Refusal.{Refusal}
 use Rattle.sheet.specs.declared.Refusal.the-variants.{Length, CheckWord, Version, Policy, BitSet, TaskCount, FrameCount, Records, IllFormed, Lock, Room}
+use Rattle.sheet.specs.declared.Answer.the-variants.{Admitted}
+use Rattle.sheet.proofs.Analysable.{admitted-sheet-is-admitted}
 use Rattle.sheet.proofs.Checks.{admits}
 use Rattle.sheet.proofs.Counts.{known-small}
 use Rattle.sheet.proofs.Small.{number-small}
@@ -52,10 +55,21 @@ use Rattle.lists.specs.Lists.{gathered-of}
 use Rattle.lists.specs.Faces.{list-analysed, list-written, reading-list, list-read}
 use Rattle.lists.specs.declared.ListRead.{ListRead}
 use Rattle.lists.specs.declared.ListRead.the-variants.{TurnedAway as not-read}
-use Rattle.workbench.specs.Numbers.{refused-number, read-number, written-number, outcome-number, decision-number}
+use Rattle.workbench.specs.Numbers.{refused-number, read-number, written-number, outcome-number, decision-number, play-refused-number, played-number, worst-number}
 use Rattle.report_text.specs.Text.{reporting, report-written}
 use Rattle.report_text.proofs.Reported.{report-fits}
 use Rattle.lists.proofs.Faces.{written-gathered, decision-gathered}
+use Rattle.player.specs.Answers.{played, traced}
+use Rattle.player.specs.declared.PlayRefusal.{PlayRefusal}
+use Rattle.player.specs.declared.Played.{Played}
+use Rattle.player.proofs.Within.{RefusalWithin, own-within, script-within, item-within, Within, missed-within, done-within, turned-within, played-within, traced-within}
+use Rattle.analysis.specs.Misses.{miss-in}
+use Rattle.analysis.specs.declared.Miss.{Miss}
+use Rattle.analysis.specs.declared.Miss.the-variants.{Nothing, Frame}
+use Rattle.worst.specs.Writing.{worst-bytes, worst-says, writing-by, worst-writing, worst-answer}
+use Rattle.worst.specs.declared.Worst.{Worst}
+use Rattle.worst.specs.declared.Worst.the-variants.{TurnedAway as no-worst}
+use Rattle.worst.proofs.Shown.{worst-bytes-few}
 
 -- ---- what refusals name
 
@@ -227,3 +241,42 @@ report-small s room = go (told Room not-written (reporting s) room)
     go (is-done d) = subst (λ (w : Written). written-number w < 2 ^ 64) (sym (d .answer)) (omega (arith, report-fits s))
     go (turned-away r t) =
         subst (λ (w : Written). written-number w < 2 ^ 64) (sym (t .answer)) (refusal-small r (each-refusal Room not-written (reporting s) room (NamesBelow 32) tt room-names r (t .why)))
+
+-- ---- a play and its trace
+
+module _ (sheet script : List ℕ) where
+  why-small : (r : PlayRefusal) → RefusalWithin sheet script r → play-refused-number r < 2 ^ 64
+  why-small _ (own-within why (inl e)) = refusal-small why (each-first (NamesBelow 32) (sheet-checks sheet) (sheet-names sheet) why e)
+  why-small _ (own-within why (inr e)) = rw e (refusal-small Room room-names)
+  why-small _ script-within = lit< tt
+  why-small _ (item-within j h) = omega arith
+
+  within-small : (p : Played) → Within sheet script p → played-number p < 2 ^ 64
+  within-small _ (missed-within t i h l) = omega arith
+  within-small _ (done-within t h) = omega arith
+  within-small _ (turned-within r h) = why-small r h
+
+  pub play-small : played-number (played sheet script) < 2 ^ 64
+  play-small = within-small _ (played-within sheet script)
+
+  pub trace-small : (room : List ℕ) → played-number (traced sheet script room) < 2 ^ 64
+  trace-small room = within-small _ (traced-within sheet script room)
+
+-- ---- a worst run
+
+module _ (s room : List ℕ) where
+  says-small : decided (sheet-checks s) ≡ Admitted → (m : Miss) → miss-in (ordered-set (policy-of s) (tasks-of s)) ≡ m → worst-number (worst-says (policy-of s) (tasks-of s) m) < 2 ^ 64
+  unfolding worst-says worst-bytes
+  says-small a Nothing e = lit< tt
+  says-small a (Frame p k) e =
+      let admits-it = answer-read s ∙ a in
+      omega (arith, worst-bytes-few (policy-of s) (tasks-of s) (by-reading s admits-it) (admitted-sheet-is-admitted s admits-it) p k e)
+
+  pub worst-small : worst-number (worst-answer s room) < 2 ^ 64
+  unfolding worst-answer worst-writing writing-by
+  worst-small = go (told Room no-worst (worst-writing s) room)
+    where
+      go : Told Room no-worst (worst-writing s) room → worst-number (worst-answer s room) < 2 ^ 64
+      go (is-done d) = subst (λ (w : Worst). worst-number w < 2 ^ 64) (sym (d .answer)) (says-small (admits (sheet-checks s) (d .admitted)) _ refl)
+      go (turned-away r t) =
+          subst (λ (w : Worst). worst-number w < 2 ^ 64) (sym (t .answer)) (refusal-small r (each-refusal Room no-worst (worst-writing s) room (NamesBelow 32) (sheet-names s) room-names r (t .why)))

@@ -1,5 +1,6 @@
 -- The numbers that C gets from every entry but `burrbeech_check_sheet`: in the low eight bits 0 or the refusal's number, above them the detail.
 use Prim.Native.Nat.{ℕ, _+_, _*_}
+use Rattle.sheet.specs.Constants.{most-tasks}
 use Rattle.sheet.specs.Refusals.{number-of, task-of-refusal, reason-of-refusal}
 use Rattle.sheet.specs.declared.Reason.{Reason}
 use Rattle.sheet.specs.declared.Refusal.{Refusal}
@@ -12,13 +13,23 @@ use Rattle.analysis.specs.declared.Decision.{Decision}
 use Rattle.lists.specs.declared.ListRead.{ListRead}
 use Rattle.lists.specs.declared.ListRead.the-variants.{Set}
 use Rattle.lists.specs.declared.ListRead.the-variants.{TurnedAway as turned-away}
+use Rattle.worst.specs.declared.Worst.{Worst}
+use Rattle.worst.specs.declared.Worst.the-variants.{Holds as holds-all, Written as script-written, TurnedAway as no-worst}
+use Rattle.player.specs.declared.PlayRefusal.{PlayRefusal}
+use Rattle.player.specs.declared.PlayRefusal.the-variants.{Own, Script, Item}
+use Rattle.player.specs.declared.Played.{Played}
+use Rattle.player.specs.declared.Played.the-variants.{Done}
+use Rattle.player.specs.declared.Played.the-variants.{Missed as missed, TurnedAway as not-played}
 
--- how many numbers eight bits hold, and sixteen
+-- how many numbers eight bits hold, and sixteen, and thirty-two
 abbrev pub byte : ℕ
 byte = 256
 
 abbrev pub two-bytes : ℕ
 two-bytes = byte * byte
+
+abbrev pub four-bytes : ℕ
+four-bytes = two-bytes * two-bytes
 
 -- no refusal, and this detail
 abbrev pub with-detail : ℕ → ℕ
@@ -50,3 +61,31 @@ outcome-number (Refused r) count = refused-number r
 
 abbrev pub decision-number : Decision → ℕ
 decision-number d = outcome-number (d .outcome) (d .«task_count»)
+
+-- the refusals that only scripts get: one that is not made as a script is, and one with an item that is out of range, out of order or against a run rule
+abbrev pub script-refusal : ℕ
+script-refusal = 13
+
+abbrev pub item-refusal : ℕ
+item-refusal = 14
+
+-- why there is no play: a refusal of the sheet's or for want of room, the script's form, or an item, above it which
+abbrev pub play-refused-number : PlayRefusal → ℕ
+play-refused-number (Own r) = refused-number r
+play-refused-number Script = script-refusal
+play-refused-number (Item j) = item-refusal + byte * j
+
+-- how a play ends: the moment in thirty-two bits, above it the task that misses, or the number behind the last task's where all jobs are done
+abbrev pub play-number : ℕ → ℕ → ℕ
+play-number tick task = with-detail (tick + four-bytes * task)
+
+abbrev pub played-number : Played → ℕ
+played-number (missed tick task) = play-number tick task
+played-number (Done tick) = play-number tick most-tasks
+played-number (not-played why) = play-refused-number why
+
+-- 0 for a set that holds, else the bytes written
+abbrev pub worst-number : Worst → ℕ
+worst-number holds-all = with-detail 0
+worst-number (script-written n) = with-detail n
+worst-number (no-worst r) = refused-number r

@@ -10,17 +10,22 @@ ghost use Rattle.analysis.specs.Findings.{times-by-number};
 ghost use Rattle.analysis.specs.Inside.Numbered.{Numbered};
 ghost use Rattle.lists.specs.Faces.{list-read, list-filled, list-written, list-left, list-analysed, list-times};
 ghost use Rattle.report_text.specs.Text.{report-written, report-left};
-ghost use Rattle.workbench.specs.Numbers.{reason-number, refused-number, read-number, written-number, decision-number};
+ghost use Rattle.player.specs.Answers.{played, traced, trace-left};
+ghost use Rattle.worst.specs.Writing.{worst-answer, worst-left};
+ghost use Rattle.workbench.specs.Numbers.{reason-number, refused-number, read-number, written-number, decision-number, play-refused-number, played-number, worst-number};
 ghost use Rattle.workbench.specs.Entry.{time-size, task-size, four-bytes, entry-number, entry-left};
 use analysis::Analysis;
 use analysis::Decision;
 use analysis::Outcome;
 use lists::ListRead;
+use player::PlayRefusal;
+use player::Played;
 use sheet::Reason;
 use sheet::Refusal;
 use sheet::Sheet;
 use sheet::Task;
 use sheet::Written;
+use worst::Worst;
 
 // The bytes of a time, and of all times of a task.
 const TIME_SIZE: usize = 4;
@@ -81,6 +86,13 @@ const BYTE: u64 = 256;
 
 const TWO_BYTES: u64 = BYTE * BYTE;
 
+const FOUR_BYTES: u64 = TWO_BYTES * TWO_BYTES;
+
+// The refusals that only scripts get.
+const SCRIPT_REFUSAL: u64 = 13;
+
+const ITEM_REFUSAL: u64 = 14;
+
 fn reason_number(why: Reason) -> u64
     ensures { λ r. ⌜ r ≡ reason-number why ⌝ }
 {
@@ -130,6 +142,39 @@ fn decision_number(decision: Decision) -> u64
     }
 }
 
+fn play_refused_number(why: PlayRefusal) -> u64
+    requires { ⌜ play-refused-number why < 2 ^ 64 ⌝ }
+    ensures { λ r. ⌜ r ≡ play-refused-number why ⌝ }
+{
+    match why {
+        PlayRefusal::Own(refusal) => refused_number(refusal),
+        PlayRefusal::Script => SCRIPT_REFUSAL,
+        PlayRefusal::Item(item) => ITEM_REFUSAL + BYTE * item as u64,
+    }
+}
+
+fn played_number(played: Played) -> u64
+    requires { ⌜ played-number played < 2 ^ 64 ⌝ }
+    ensures { λ r. ⌜ r ≡ played-number played ⌝ }
+{
+    match played {
+        Played::Missed(tick, task) => BYTE * (tick as u64 + FOUR_BYTES * task as u64),
+        Played::Done(tick) => BYTE * (tick as u64 + FOUR_BYTES * Sheet::MOST_TASKS as u64),
+        Played::TurnedAway(why) => play_refused_number(why),
+    }
+}
+
+fn worst_number(worst: Worst) -> u64
+    requires { ⌜ worst-number worst < 2 ^ 64 ⌝ }
+    ensures { λ r. ⌜ r ≡ worst-number worst ⌝ }
+{
+    match worst {
+        Worst::Holds => 0,
+        Worst::Written(n) => BYTE * n as u64,
+        Worst::TurnedAway(why) => refused_number(why),
+    }
+}
+
 // A sheet read into the workbench's own records.
 #[no_mangle]
 pub extern "C" fn burrbeech_read_list(sheet: &[u8], list: &mut [Task]) -> u64
@@ -168,4 +213,28 @@ pub extern "C" fn burrbeech_report(sheet: &[u8], text: &mut [u8]) -> u64
     ensures { λ r. ⌜ (r ≡ written-number (report-written (now (sheet .entry)) (now (text .entry)))) × (now (text .exit) ≡ report-left (now (sheet .entry)) (now (text .entry))) ⌝ }
 {
     written_number(report_text::write_report(sheet, text))
+}
+
+// The play of a script for a sheet.
+#[no_mangle]
+pub extern "C" fn burrbeech_play(sheet: &[u8], script: &[u8]) -> u64
+    ensures { λ r. ⌜ r ≡ played-number (played (now (sheet .entry)) (now (script .entry))) ⌝ }
+{
+    played_number(player::play(sheet, script))
+}
+
+// The same play, and a byte for each tick of it to lent bytes.
+#[no_mangle]
+pub extern "C" fn burrbeech_trace(sheet: &[u8], script: &[u8], ticks: &mut [u8]) -> u64
+    ensures { λ r. ⌜ (r ≡ played-number (traced (now (sheet .entry)) (now (script .entry)) (now (ticks .entry)))) × (now (ticks .exit) ≡ trace-left (now (sheet .entry)) (now (script .entry)) (now (ticks .entry))) ⌝ }
+{
+    played_number(player::trace(sheet, script, ticks))
+}
+
+// The worst run of a set that misses, written as a script.
+#[no_mangle]
+pub extern "C" fn burrbeech_worst_run(sheet: &[u8], script: &mut [u8]) -> u64
+    ensures { λ r. ⌜ (r ≡ worst-number (worst-answer (now (sheet .entry)) (now (script .entry)))) × (now (script .exit) ≡ worst-left (now (sheet .entry)) (now (script .entry))) ⌝ }
+{
+    worst_number(worst::worst_run(sheet, script))
 }
