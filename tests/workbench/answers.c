@@ -19,12 +19,14 @@ static bool says_nothing_else(uint64_t answer)
            burrbeech_analysed_tasks(answer) == 0 && burrbeech_analysed_outcome(answer) == 0 &&
            !burrbeech_analysed_holds(answer) && !burrbeech_analysed_missed(answer) &&
            burrbeech_analysed_missed_task(answer) == 0 &&
-           burrbeech_analysed_missed_blocker(answer) == BURRBEECH_NO_BLOCKER;
+           burrbeech_analysed_missed_blocker(answer) == BURRBEECH_NO_BLOCKER && burrbeech_play_tick(answer) == 0 &&
+           burrbeech_play_task(answer) == BURRBEECH_NO_TASK && !burrbeech_play_missed(answer) &&
+           !burrbeech_play_done(answer) && burrbeech_worst_run_length(answer) == 0;
 }
 
 static bool refusals(void)
 {
-    for (uint32_t number = 1; number <= 12; number++) {
+    for (uint32_t number = 1; number <= 13; number++) {
         bool names = number == 7 || (number >= 9 && number <= 11);
         for (size_t task = 0; task < (names ? BURRBEECH_TASKS_MAX : 1); task++) {
             uint64_t answer = refused(number, task);
@@ -57,6 +59,53 @@ static bool no_other_reason(void)
 {
     for (uint32_t number = 0; number <= 99; number++) {
         if (number != 11 && !reason(refused(number, UINT64_MAX >> 8), 0, 0, 0)) {
+            return false;
+        }
+    }
+    return true;
+}
+
+/* 14 of every item that there can be, by steps; no other answer has an item, whatever its detail. */
+static bool items(void)
+{
+    for (uint64_t item = 0; item < BURRBEECH_TASKS_MAX + BURRBEECH_ENTRIES_MAX; item += item < 1000 ? 1 : 997) {
+        uint64_t answer = refused(14, item);
+        if (burrbeech_refusal(answer) != 14 || burrbeech_refusal_item(answer) != item ||
+            burrbeech_refusal_names_task(14) || burrbeech_refusal_task(answer) != 0 || !says_nothing_else(answer)) {
+            return false;
+        }
+    }
+    for (uint32_t number = 0; number <= 99; number++) {
+        if (number != 14 && burrbeech_refusal_item(refused(number, UINT64_MAX >> 8)) != 0) {
+            return false;
+        }
+    }
+    return true;
+}
+
+static bool plays(void)
+{
+    for (uint64_t tick = 0; tick <= BURRBEECH_PLAYED_MAX; tick += tick < 1000 ? 1 : 997) {
+        for (size_t task = 0; task <= BURRBEECH_NO_TASK; task++) {
+            uint64_t answer = success(tick | (uint64_t)task << 32);
+            bool missed = task != BURRBEECH_NO_TASK;
+            if (burrbeech_refusal(answer) != 0 || burrbeech_play_tick(answer) != tick ||
+                burrbeech_play_task(answer) != task || burrbeech_play_missed(answer) != missed ||
+                burrbeech_play_done(answer) != !missed) {
+                return false;
+            }
+        }
+    }
+    return burrbeech_worst_run_length(success(0)) == 0 &&
+           burrbeech_worst_run_length(success(BURRBEECH_WORST_MAX)) == BURRBEECH_WORST_MAX;
+}
+
+static bool traced_ticks(void)
+{
+    for (uint8_t task = 0; task <= BURRBEECH_NO_TASK; task++) {
+        uint8_t locked = (uint8_t)(task + BURRBEECH_LOCKED);
+        if (burrbeech_trace_task(task) != task || burrbeech_trace_locked(task) ||
+            burrbeech_trace_task(locked) != task || !burrbeech_trace_locked(locked)) {
             return false;
         }
     }
@@ -140,14 +189,14 @@ static bool refusals_of_a_check(void)
 /* No two numbers have the same words, and a number that is none has words of its own. */
 static bool words(void)
 {
-    for (uint32_t number = 0; number <= 13; number++) {
+    for (uint32_t number = 0; number <= 15; number++) {
         for (uint32_t other = 0; other < number; other++) {
             if (strcmp(burrbeech_refusal_words(number), burrbeech_refusal_words(other)) == 0) {
                 return false;
             }
         }
     }
-    return strcmp(burrbeech_refusal_words(13), burrbeech_refusal_words(99)) == 0;
+    return strcmp(burrbeech_refusal_words(15), burrbeech_refusal_words(99)) == 0;
 }
 
 /* The last slot of the last task, with a different digit in each byte. */
@@ -185,6 +234,9 @@ int main(void)
     expect("refusals, with the task where they name one", refusals());
     expect("the parts of every reason of 11", reasons());
     expect("no other answer has them", no_other_reason());
+    expect("the item of 14, and no other answer has one", items());
+    expect("ends of plays, and bytes of worst runs", plays());
+    expect("ticks of a trace", traced_ticks());
     expect("lists read", lists_read());
     expect("bytes written and lengths of reports", lengths());
     expect("misses of every task with every blocker", misses());

@@ -15,6 +15,9 @@ struct lent {
     uint8_t bytes[BURRBEECH_TIMES_BYTES];
     uint32_t times[BURRBEECH_TIMES_MAX];
     uint8_t text[BURRBEECH_REPORT_MAX];
+    uint8_t script[BURRBEECH_WORST_MAX];
+    size_t script_len;
+    uint8_t ticks[BURRBEECH_PLAYED_MAX];
     uint64_t answer;
 };
 
@@ -49,10 +52,28 @@ static void report(struct lent *lent)
     lent->answer = burrbeech_report(lent->sheet.bytes, lent->sheet.len, lent->text, sizeof lent->text);
 }
 
-static void (*const entries[])(struct lent *) = {check_sheet,  read_list,     write_list,
-                                                 analyse_list, analyse_sheet, report};
-static const char *const names[] = {"check_sheet",  "read_list",     "write_list",
-                                    "analyse_list", "analyse_sheet", "report"};
+/* The worst run of a set that misses is what the other two entries play. */
+static void worst_run(struct lent *lent)
+{
+    lent->answer = burrbeech_worst_run(lent->sheet.bytes, lent->sheet.len, lent->script, sizeof lent->script);
+    lent->script_len = burrbeech_worst_run_length(lent->answer);
+}
+
+static void play(struct lent *lent)
+{
+    lent->answer = burrbeech_play(lent->sheet.bytes, lent->sheet.len, lent->script, lent->script_len);
+}
+
+static void trace(struct lent *lent)
+{
+    lent->answer = burrbeech_trace(lent->sheet.bytes, lent->sheet.len, lent->script, lent->script_len, lent->ticks,
+                                   sizeof lent->ticks);
+}
+
+static void (*const entries[])(struct lent *) = {check_sheet, read_list, write_list, analyse_list, analyse_sheet,
+                                                 report,      worst_run, play,       trace};
+static const char *const names[] = {"check_sheet", "read_list", "write_list", "analyse_list", "analyse_sheet",
+                                    "report",      "worst_run", "play",       "trace"};
 enum { ENTRIES = sizeof entries / sizeof *entries };
 
 /* A set of sixteen tasks of eight equal frames, whose deadlines are their periods, and its sheet. The first task has a

@@ -1,14 +1,17 @@
-//! Nanoseconds per call of the C entry and of the second program's, on the same sheets.
+//! Time per call of the C entries and of the second program's, on the same sheets and scripts.
 use second::analysis;
 use second::generate::{self, Shape};
 use second::random::Random;
-use second::sheet;
+use second::scripts::{self, Entry as Release, Script};
 use second::task::{Set, Task, MOST_TASKS, MOST_TICKS};
+use second::{answers, sheet};
 use std::hint::black_box;
 use std::time::Instant;
 
 extern "C" {
     fn burrbeech_check_sheet(sheet: *const u8, sheet_len: usize, times: *mut u8, times_len: usize) -> u32;
+    fn burrbeech_play(sheet: *const u8, sheet_len: usize, script: *const u8, script_len: usize) -> u64;
+    fn burrbeech_worst_run(sheet: *const u8, sheet_len: usize, script: *mut u8, script_len: usize) -> u64;
 }
 
 type Entry = fn(&[u8], &mut [u8]) -> u32;
@@ -83,6 +86,63 @@ fn costliest_found() -> Set {
     Set { policy: 0, tasks }
 }
 
+/// Milliseconds of one call that answers a number, the least of several turns by turns, where both programs answer the same.
+fn measure_long(what: &str, turns: usize, mut ours: impl FnMut() -> u64, mut theirs: impl FnMut() -> u64) {
+    assert_eq!(ours(), theirs());
+    let mut least = [f64::INFINITY; 2];
+    for _ in 0..turns {
+        let began = Instant::now();
+        black_box(ours());
+        least[0] = least[0].min(began.elapsed().as_secs_f64());
+        let began = Instant::now();
+        black_box(theirs());
+        least[1] = least[1].min(began.elapsed().as_secs_f64());
+    }
+    let [ours, theirs] = least.map(|seconds| seconds * 1e3);
+    println!("{what:<60} proved {ours:>11.2} ms, second {theirs:>11.2} ms, ratio {:.2}", ours / theirs);
+}
+
+fn play_by_turns(what: &str, set: &Set, script: &Script, turns: usize) {
+    let (sheet, script) = (sheet::write(set), scripts::write(script));
+    let proved = || unsafe { burrbeech_play(sheet.as_ptr(), sheet.len(), script.as_ptr(), script.len()) };
+    measure_long(what, turns, proved, || answers::play(&sheet, &script));
+}
+
+/// Sixteen tasks: fifteen that are released about every thousand ticks, some of them with locks, and a long one that is released last and runs to the end.
+fn two_million_ticks() -> (Set, Script) {
+    let task = |period: u32, deadline: u32, lock: u32, time: u32| Task { period, deadline, lock, frames: vec![time] };
+    let mut tasks: Vec<Task> = (1..MOST_TASKS as u32).map(|i| task(1_000 + 16 * i, 900 + 16 * i, 3, 30)).collect();
+    tasks.push(task(MOST_TICKS, MOST_TICKS, 0, MOST_TICKS));
+    let mut entries = vec![Release { task: 15, tick: MOST_TICKS, work: MOST_TICKS, lock: 0 }];
+    for (i, task) in tasks.iter().enumerate().take(15) {
+        let ticks = (i as u32..=MOST_TICKS).step_by(task.period as usize);
+        entries.extend(ticks.map(|tick| Release { task: i as u32, tick, work: 10 + i as u32, lock: 3 * (i as u32 % 2) }));
+    }
+    entries.sort_by_key(|entry| (entry.tick, entry.task));
+    (Set { policy: 0, tasks }, Script { first_frames: vec![0; MOST_TASKS], entries })
+}
+
+/// Sixteen tasks that are released at every tick, a hundred thousand entries in all; two of the first tick miss at once, so that the call judges the script and plays one tick.
+fn hundred_thousand_entries() -> (Set, Script) {
+    let tasks = vec![Task { period: 1, deadline: 1, lock: 0, frames: vec![1] }; MOST_TASKS];
+    let entries = (0..100_000u32).map(|j| Release { task: j % 16, tick: j / 16, work: 1, lock: 0 }).collect();
+    (Set { policy: 0, tasks }, Script { first_frames: vec![0; MOST_TASKS], entries })
+}
+
+/// A long deadline that is missed below tasks of short periods: half a million entries and more.
+fn long_worst_run() -> Set {
+    let plain = |period: u32, time: u32| Task { period, deadline: period, lock: 0, frames: vec![time] };
+    Set { policy: 0, tasks: vec![plain(2, 1), plain(5, 1), plain(11, 2), plain(MOST_TICKS, 200_000)] }
+}
+
+fn worst_by_turns(what: &str, set: &Set, turns: usize) {
+    let sheet = sheet::write(set);
+    let (mut ours, mut theirs) = (vec![0u8; 9_000_000], vec![0u8; 9_000_000]);
+    let proved = || unsafe { burrbeech_worst_run(sheet.as_ptr(), sheet.len(), ours.as_mut_ptr(), ours.len()) };
+    measure_long(what, turns, proved, || answers::worst_run(&sheet, &mut theirs));
+    assert!(ours == theirs);
+}
+
 fn main() {
     let mut random = Random::new(60);
     let sets: Vec<Set> = (0..2_000).map(|_| typical(&mut random)).collect();
@@ -94,4 +154,9 @@ fn main() {
     measure("slow climb to times, equal frames", &[holding], 1, 4);
     measure("slow climb to times, one larger frame", &[one_larger_frame()], 1, 10);
     measure("the costliest found", &[costliest_found()], 1, 3);
+    let (set, script) = two_million_ticks();
+    play_by_turns("a play of two million ticks, sixteen tasks", &set, &script, 5);
+    let (set, script) = hundred_thousand_entries();
+    play_by_turns("a script of 100,000 entries judged, one tick played", &set, &script, 10);
+    worst_by_turns("a worst run of some 830,000 entries written", &long_worst_run(), 3);
 }

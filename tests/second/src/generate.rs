@@ -21,11 +21,11 @@ pub struct Shape {
 }
 
 /// A number from `least` to `greatest`.
-fn between(random: &mut Random, least: u32, greatest: u32) -> u32 {
+pub fn between(random: &mut Random, least: u32, greatest: u32) -> u32 {
     least + random.below(u64::from(greatest - least) + 1) as u32
 }
 
-fn one_in(random: &mut Random, n: u64) -> bool {
+pub fn one_in(random: &mut Random, n: u64) -> bool {
     random.below(n) == 0
 }
 

@@ -15,5 +15,7 @@ pub mod random;
 pub mod refusal;
 pub mod report;
 pub mod runs;
+pub mod script_inputs;
+pub mod scripts;
 pub mod sheet;
 pub mod task;

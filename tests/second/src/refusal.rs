@@ -11,7 +11,7 @@ pub struct NoStart {
     pub other: usize,
 }
 
-/// The scope's table of refusals, top to bottom; a task number goes with 7, 9, 10 and 11, and with 11 its reason.
+/// The scope's table of refusals, top to bottom; a task number goes with 7, 9, 10 and 11, with 11 its reason, and an item with 14.
 #[derive(Clone, Copy, Debug, PartialEq, Eq, Hash)]
 pub enum Refusal {
     Length,
@@ -26,6 +26,10 @@ pub enum Refusal {
     Lock(usize),
     NotMonotonic(usize, NoStart),
     Room,
+    /// A script's length, fill or check word.
+    Script,
+    /// Of a script's first frames and entries, counted together.
+    Item(usize),
 }
 
 impl Refusal {
@@ -43,6 +47,8 @@ impl Refusal {
             Refusal::Lock(_) => 10,
             Refusal::NotMonotonic(..) => 11,
             Refusal::Room => 12,
+            Refusal::Script => 13,
+            Refusal::Item(_) => 14,
         }
     }
 

@@ -102,6 +102,15 @@ impl<'a> Player<'a> {
         }
     }
 
+    /// The job that has this tick.
+    pub fn running_job(&self) -> Option<Job> {
+        self.running().map(|task| self.pending[task][0])
+    }
+
+    pub fn in_stretch(&self) -> bool {
+        self.stretch.is_some()
+    }
+
     /// The longest stretch that may start with this tick; 0 if none may.
     pub fn longest_stretch(&self) -> u32 {
         match (self.stretch, self.running()) {
@@ -178,7 +187,7 @@ pub fn play_worst_run(set: &Set, task: usize, frame: usize) -> Result<Option<u64
 }
 
 /// The frame itself, the blocker's lowest-numbered largest frame, the higher tasks' start frames; else 0.
-fn worst_first_frames(set: &Set, own: (usize, usize), higher: &[usize], blocker: Option<usize>) -> Vec<usize> {
+pub fn worst_first_frames(set: &Set, own: (usize, usize), higher: &[usize], blocker: Option<usize>) -> Vec<usize> {
     let mut first = vec![0; set.tasks.len()];
     first[own.0] = own.1;
     for &i in higher {

@@ -18,30 +18,35 @@ pub const CHECK_BYTES: usize = 2;
 pub const LEAST: usize = bytes_for(HEADER + FIXED + TICKS_WIDTH);
 pub const GREATEST: usize = bytes_for(HEADER + MOST_TASKS * (FIXED + MOST_FRAMES * TICKS_WIDTH));
 
-/// The length of a sheet whose header and records take so many bits.
-const fn bytes_for(bits: usize) -> usize {
+/// The length of a file whose fields take so many bits, with fill and check word.
+pub const fn bytes_for(bits: usize) -> usize {
     bits.div_ceil(8) + CHECK_BYTES
 }
 
 /// Takes field after field from the bytes before the check word.
-struct Fields<'a> {
+pub struct Fields<'a> {
     bytes: &'a [u8],
     at: usize,
 }
 
-impl Fields<'_> {
-    fn left(&self) -> usize {
+impl<'a> Fields<'a> {
+    /// From the first bit on; the caller has made sure that there is a check word.
+    pub fn of(bytes: &'a [u8]) -> Self {
+        Fields { bytes: &bytes[..bytes.len() - CHECK_BYTES], at: 0 }
+    }
+
+    pub fn left(&self) -> usize {
         8 * self.bytes.len() - self.at
     }
 
     /// The next field; the caller has made sure that it is there.
-    fn take(&mut self, width: usize) -> u32 {
+    pub fn take(&mut self, width: usize) -> u32 {
         let value = bits::take(self.bytes, self.at, width).expect("a field past the end");
         self.at += width;
         value
     }
 
-    fn ticks(&mut self) -> u32 {
+    pub fn ticks(&mut self) -> u32 {
         self.take(TICKS_WIDTH)
     }
 }
@@ -54,7 +59,7 @@ pub fn read(bytes: &[u8]) -> Result<Set, Refusal> {
     if !check_word::is_sealed(bytes) {
         return Err(Refusal::CheckWord);
     }
-    let mut fields = Fields { bytes: &bytes[..bytes.len() - CHECK_BYTES], at: 0 };
+    let mut fields = Fields::of(bytes);
     let (policy, count) = read_header(&mut fields)?;
     let tasks = (0..count).map(|i| read_task(&mut fields, i)).collect::<Result<Vec<Task>, Refusal>>()?;
     read_fill(&mut fields)?;
