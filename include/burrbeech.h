@@ -1,9 +1,9 @@
-/* Burrbeech: task sheets and their analysis, for C and C++.
+/* Burrbeech: task sheets, their analysis and plays of their runs, for C and C++.
  *
  *     cc main.c $(pkg-config --cflags --libs burrbeech)
  *
  * A task sheet is 15 to 452 bytes of packed bits with a policy and 1 to 16 tasks. Tasks and frames count from 0, times
- * are ticks.
+ * are ticks. A run script is packed bits too: the releases of a run of a sheet's set, see burrbeech_play.
  *
  * What a caller may pass: every byte string, every list, every number in every field and every size of buffer. What is
  * no sheet or no set is refused, by a number. A length counts the elements of its buffer: bytes, records or 32-bit
@@ -14,7 +14,8 @@
  * them, and what an answer does not need of them keeps its content. There is no state, no allocation, no errno and no
  * signal. Any number of threads may be in any of the entries at a time; memory that a call reads nobody may write
  * meanwhile, and memory that it writes nobody may touch. A call is content with BURRBEECH_STACK_MAX bytes of stack.
- * Most calls take microseconds; the costliest sheet found takes a fifth of a second.
+ * Most calls take microseconds; the costliest sheet found takes a fifth of a second. A play takes as long as it has
+ * ticks and its script bytes.
  *
  * The libraries are for x86-64 and its System V calling convention. */
 #ifndef BURRBEECH_H
@@ -26,21 +27,27 @@
 
 /* The version, stated here and nowhere else. Until 1.0.0 a new minor version may change the entries. */
 #define BURRBEECH_VERSION_MAJOR 0
-#define BURRBEECH_VERSION_MINOR 2
+#define BURRBEECH_VERSION_MINOR 3
 #define BURRBEECH_VERSION_PATCH 0
-#define BURRBEECH_VERSION "0.2.0"
+#define BURRBEECH_VERSION "0.3.0"
 
 /* Limits. */
-#define BURRBEECH_SHEET_MIN 15      /* bytes of the shortest sheet */
-#define BURRBEECH_SHEET_MAX 452     /* bytes of the longest sheet; of a file read one more, to refuse a longer one */
-#define BURRBEECH_TASKS_MAX 16      /* tasks of a set */
-#define BURRBEECH_FRAMES_MAX 8      /* frames of a task, and slots for its times */
-#define BURRBEECH_TICKS_MAX 1048575 /* the longest period, deadline, lock or frame time */
-#define BURRBEECH_TIMES_MAX 128     /* numbers that hold the times of every set: 8 for each task */
-#define BURRBEECH_TIMES_BYTES 512   /* bytes that hold the times of every set: 4 for each number */
-#define BURRBEECH_REPORT_MAX 2048   /* bytes that hold every report */
-#define BURRBEECH_NO_BLOCKER 16     /* stands for the blocker of a miss that has none */
-#define BURRBEECH_STACK_MAX 32768   /* bytes of stack that every call is content with */
+#define BURRBEECH_SHEET_MIN 15         /* bytes of the shortest sheet */
+#define BURRBEECH_SHEET_MAX 452        /* bytes of the longest sheet; of a file read one more, to refuse a longer one */
+#define BURRBEECH_TASKS_MAX 16         /* tasks of a set */
+#define BURRBEECH_FRAMES_MAX 8         /* frames of a task, and slots for its times */
+#define BURRBEECH_TICKS_MAX 1048575    /* the longest period, deadline, lock or frame time */
+#define BURRBEECH_TIMES_MAX 128        /* numbers that hold the times of every set: 8 for each task */
+#define BURRBEECH_TIMES_BYTES 512      /* bytes that hold the times of every set: 4 for each number */
+#define BURRBEECH_REPORT_MAX 2048      /* bytes that hold every report */
+#define BURRBEECH_NO_BLOCKER 16        /* stands for the blocker of a miss that has none */
+#define BURRBEECH_ENTRIES_MAX 16777215 /* entries of a run script */
+#define BURRBEECH_SCRIPT_MAX 134217733 /* bytes of the longest run script */
+#define BURRBEECH_WORST_MAX 8388749    /* bytes that hold the worst run of every set */
+#define BURRBEECH_PLAYED_MAX 2097150   /* ticks of the longest play: bytes that hold every trace */
+#define BURRBEECH_NO_TASK 16           /* stands for the task of a play without a miss, and for that of an idle tick */
+#define BURRBEECH_LOCKED 32            /* what the byte of a tick in a locked stretch has above its task */
+#define BURRBEECH_STACK_MAX 32768      /* bytes of stack that every call is content with */
 
 /* What is turned away, by number. Numbers up to 99 are kept for refusals. */
 enum burrbeech_refusal_number {
@@ -55,7 +62,9 @@ enum burrbeech_refusal_number {
     BURRBEECH_REFUSAL_ILL_FORMED = 9,     /* names a task */
     BURRBEECH_REFUSAL_LOCK = 10,          /* names a task */
     BURRBEECH_REFUSAL_NOT_MONOTONIC = 11, /* names a task, and says why it has no start frame */
-    BURRBEECH_REFUSAL_ROOM = 12
+    BURRBEECH_REFUSAL_ROOM = 12,
+    BURRBEECH_REFUSAL_SCRIPT = 13, /* of a run script: length, fill or check word */
+    BURRBEECH_REFUSAL_ITEM = 14    /* of a run script: names an item, a first frame or an entry */
 };
 
 /* What puts the tasks in priority order; where keys are equal, the lower task number is higher. */
@@ -113,8 +122,8 @@ BURRBEECH_ENTRY uint32_t burrbeech_check_sheet(const uint8_t *sheet, size_t shee
 
 /* Every entry below answers one number: answer & 0xFF is 0, or the number of the refusal, 1 to 99; answer >> 8 is the
  * detail. The detail of refusals 7, 9 and 10 is the task in bits 0 to 7, that of 11 the task in bits 0 to 7 and why it
- * has no start frame in bits 8 to 31, that of the others is 0; the bits above are 0. The detail of success stands with
- * each entry. The functions further down take answers apart, so that no caller has to.
+ * has no start frame in bits 8 to 31, that of 14 the item, that of the others is 0; the bits above are 0. The detail of
+ * success stands with each entry. The functions further down take answers apart, so that no caller has to.
  *
  * A frame's sum at a length is the sum of so many frames from it on, going round. A start frame has, at each length up
  * to the number of frames, a sum that is at least that of every other frame; a task without one is not accumulatively
@@ -152,6 +161,49 @@ BURRBEECH_ENTRY uint64_t burrbeech_analyse_sheet(const uint8_t *sheet, size_t sh
  * A refused sheet has a report too ("refused" and the number), so that the one refusal is 12: text_len is below the
  * length. */
 BURRBEECH_ENTRY uint64_t burrbeech_report(const uint8_t *sheet, size_t sheet_len, uint8_t *text, size_t text_len);
+
+/* Run scripts. A script says one run of a sheet's set. It is packed bits like the sheet, most significant bit first and
+ * without gaps: for each task of the sheet, in task-number order, a first frame (4 bits); the count of the entries (24
+ * bits); the entries, each a task (4 bits), a tick, work and a lock (20 bits each); zero bits up to a whole byte; and
+ * the sheet's check word over all of it (16 bits). docs/SCRIPT.md shows one byte by byte.
+ *
+ * An entry releases a job of its task at its tick. A task's first job takes its first frame, later jobs the following
+ * frames, going round. Each time the job is picked outside a locked stretch it starts one of its lock's length, which
+ * ends early with the job; a lock of 0 or 1 starts none.
+ *
+ * What is refused of a script, after all that is refused of the sheet: 13, its length, fill or check word is wrong for
+ * this sheet; 14, an item is out of range, out of order or against a run rule. Items are the first frames and the
+ * entries, counted together from 0; the first that is wrong is named. A first frame is below the task's frame count. An
+ * entry's task is below the task count and its lock at most the task's (1 is above 0); entries go by tick, then by task
+ * number, and no two have both the same; a task's entries are at least its period apart; work is at most the time of
+ * the job's frame.
+ *
+ * A play goes tick by tick. A moment k is the start of tick k and the end of tick k - 1. At each moment misses are
+ * looked at first: a job misses that has work left at its tick plus its task's deadline. The play stops at the first
+ * miss, of several at one moment that of the lowest task number, or when all jobs are done. */
+
+/* Plays a script on the set of a sheet.
+ * The detail is the moment at which the play stops in bits 0 to 31, and the task that misses then, or
+ * BURRBEECH_NO_TASK if all jobs are done, in bits 32 to 39; the bits above are 0. Without entries the moment is 0.
+ * Refuses as the sheet says, then with 13 and 14 as the script says. */
+BURRBEECH_ENTRY uint64_t burrbeech_play(const uint8_t *sheet, size_t sheet_len, const uint8_t *script,
+                                        size_t script_len);
+
+/* Writes the worst run of a set that misses as a script: that of the first frame without a response time of the task
+ * that the analysis names. Its play stops with a miss of that task at 1 plus its deadline.
+ * The detail is the number of bytes written; 0 if the set holds, of which nothing is written, whatever the room.
+ * Refuses as the sheet says, last 12: the set misses and script_len is below the script's length, which is at most
+ * BURRBEECH_WORST_MAX. */
+BURRBEECH_ENTRY uint64_t burrbeech_worst_run(const uint8_t *sheet, size_t sheet_len, uint8_t *script,
+                                             size_t script_len);
+
+/* Plays a script as burrbeech_play does, and writes what each tick has to the first bytes of ticks, as many as the
+ * moment at which the play stops: the number of the task that has the tick, or BURRBEECH_NO_TASK for an idle one, and
+ * BURRBEECH_LOCKED more in a locked stretch, from its first tick on.
+ * The detail is that of burrbeech_play.
+ * Refuses as burrbeech_play does, last 12: ticks_len is below that moment. */
+BURRBEECH_ENTRY uint64_t burrbeech_trace(const uint8_t *sheet, size_t sheet_len, const uint8_t *script,
+                                         size_t script_len, uint8_t *ticks, size_t ticks_len);
 
 /* ---- Taking answers apart: every entry but burrbeech_check_sheet ------------------------------------------------- */
 
@@ -204,6 +256,12 @@ static inline size_t burrbeech_refusal_other_frame(uint64_t answer)
                : 0;
 }
 
+/* Of refusal 14 the item of the script, first frames and entries counted together; 0 for every other answer. */
+static inline size_t burrbeech_refusal_item(uint64_t answer)
+{
+    return burrbeech_refusal(answer) == BURRBEECH_REFUSAL_ITEM ? (size_t)burrbeech_detail(answer) : 0;
+}
+
 /* What a refusal of this number says, in a few words. */
 static inline const char *burrbeech_refusal_words(uint32_t refusal)
 {
@@ -221,6 +279,9 @@ static inline const char *burrbeech_refusal_words(uint32_t refusal)
     case BURRBEECH_REFUSAL_LOCK: return "lock above the largest frame";
     case BURRBEECH_REFUSAL_NOT_MONOTONIC: return "not accumulatively monotonic";
     case BURRBEECH_REFUSAL_ROOM: return "lent room too small";
+    case BURRBEECH_REFUSAL_SCRIPT: return "length, fill or check word of the script wrong";
+    case BURRBEECH_REFUSAL_ITEM:
+        return "a first frame or an entry of the script out of range, out of order or against a run rule";
     default: return "a refusal that this version does not know";
     }
 }
@@ -292,6 +353,48 @@ static inline size_t burrbeech_analysed_missed_blocker(uint64_t answer)
 static inline uint32_t burrbeech_analysed_time(const uint32_t *times, size_t task, size_t frame)
 {
     return frame < BURRBEECH_FRAMES_MAX ? times[BURRBEECH_FRAMES_MAX * task + frame] : 0;
+}
+
+/* burrbeech_play and burrbeech_trace: the moment at which the play stops; 0 for a refusal. */
+static inline uint32_t burrbeech_play_tick(uint64_t answer)
+{
+    return burrbeech_refusal(answer) == 0 ? (uint32_t)(burrbeech_detail(answer) & 0xFFFFFFFF) : 0;
+}
+
+/* The task that misses then, or BURRBEECH_NO_TASK; this one also for a refusal. */
+static inline size_t burrbeech_play_task(uint64_t answer)
+{
+    return burrbeech_refusal(answer) == 0 ? (size_t)(burrbeech_detail(answer) >> 32 & 0xFF) : BURRBEECH_NO_TASK;
+}
+
+/* Whether the script was played and a job misses. */
+static inline bool burrbeech_play_missed(uint64_t answer)
+{
+    return burrbeech_play_task(answer) != BURRBEECH_NO_TASK;
+}
+
+/* Whether the script was played and all jobs are done. */
+static inline bool burrbeech_play_done(uint64_t answer)
+{
+    return burrbeech_refusal(answer) == 0 && !burrbeech_play_missed(answer);
+}
+
+/* burrbeech_worst_run: the bytes of the script; 0 if the set holds, and for a refusal. */
+static inline size_t burrbeech_worst_run_length(uint64_t answer)
+{
+    return burrbeech_refusal(answer) == 0 ? (size_t)burrbeech_detail(answer) : 0;
+}
+
+/* The task that has a tick, by the byte that burrbeech_trace left, or BURRBEECH_NO_TASK for an idle tick. */
+static inline size_t burrbeech_trace_task(uint8_t tick)
+{
+    return (size_t)(tick & (BURRBEECH_LOCKED - 1));
+}
+
+/* Whether the tick is in a locked stretch. */
+static inline bool burrbeech_trace_locked(uint8_t tick)
+{
+    return (tick & BURRBEECH_LOCKED) != 0;
 }
 
 /* ---- Taking the answer of burrbeech_check_sheet apart ------------------------------------------------------------ */

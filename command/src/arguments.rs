@@ -1,12 +1,14 @@
 //! What the command is asked for.
-use crate::help::Verb;
+use crate::draw::DrawOptions;
+use crate::help::{Topic, Verb};
 use crate::names::{quoted_if_odd, Name};
+use crate::play::PlayOptions;
 use crate::status::Trouble;
 use std::ffi::{OsStr, OsString};
 
 #[derive(Debug, PartialEq, Eq)]
 pub enum Request {
-    Help(Option<Verb>),
+    Help(Topic),
     Version,
     Refusals,
     Check(CheckOptions),
@@ -14,6 +16,11 @@ pub enum Request {
     Explain { json: bool, source: Name },
     Show { json: bool, source: Name },
     Compose { table: Name, to: Option<Name> },
+    Play(PlayOptions),
+    Worst { json: bool, sheet: Name, to: Option<Name> },
+    Draw(DrawOptions),
+    ScriptCompose { sheet: Name, text: Name, to: Option<Name> },
+    ScriptShow { json: bool, sheet: Name, script: Name },
 }
 
 #[derive(Debug, PartialEq, Eq)]
@@ -29,19 +36,41 @@ struct Given {
     quiet: bool,
     json: bool,
     to: Option<OsString>,
+    /// `--last`, `--from` and `--to` with their numbers.
+    last: Option<u32>,
+    from_tick: Option<u32>,
+    to_tick: Option<u32>,
     names: Vec<OsString>,
 }
 
 pub fn parse(words: impl Iterator<Item = OsString>) -> Result<Request, Trouble> {
     let words: Vec<OsString> = words.collect();
     let Some((first, rest)) = words.split_first() else { return Err(usage("a verb is missing".to_string())) };
-    match (Verb::named(first), first.to_str()) {
-        (Some(verb), _) if matches!(rest, [word] if is_help(word)) => Ok(Request::Help(Some(verb))),
-        (Some(verb), _) => request(verb, given(verb, rest.iter().cloned())?),
+    match (Verb::named(&[first]), first.to_str()) {
+        (Some(verb), _) => asked(verb, rest),
+        (None, Some("script")) => script(rest),
         (None, Some("help")) => help(rest),
-        (None, Some("--help" | "-h")) => alone(first, rest, Request::Help(None)),
+        (None, Some("--help" | "-h")) => alone(first, rest, Request::Help(Topic::All)),
         (None, Some("--version")) => alone(first, rest, Request::Version),
         (None, _) => Err(usage(format!("there is no verb {}", quoted_if_odd(first)))),
+    }
+}
+
+/// A verb and the words after it.
+fn asked(verb: Verb, rest: &[OsString]) -> Result<Request, Trouble> {
+    match rest {
+        [word] if is_help(word) => Ok(Request::Help(Topic::One(verb))),
+        _ => request(verb, given(verb, rest.iter().cloned())?),
+    }
+}
+
+/// `script` has two verbs of its own.
+fn script(words: &[OsString]) -> Result<Request, Trouble> {
+    let Some((second, rest)) = words.split_first() else { return Err(usage("script needs compose or show after it".to_string())) };
+    match Verb::named(&[OsStr::new("script"), second]) {
+        Some(verb) => asked(verb, rest),
+        None if is_help(second) => alone(second, rest, Request::Help(Topic::Script)),
+        None => Err(usage(format!("script needs compose or show after it, not {}", quoted_if_odd(second)))),
     }
 }
 
@@ -62,13 +91,13 @@ fn alone(word: &OsStr, rest: &[OsString], request: Request) -> Result<Request, T
 }
 
 fn help(words: &[OsString]) -> Result<Request, Trouble> {
-    match words {
-        [] => Ok(Request::Help(None)),
-        [word] if word == "help" => Ok(Request::Help(None)),
-        [word] => match Verb::named(word) {
-            Some(verb) => Ok(Request::Help(Some(verb))),
-            None => Err(usage(format!("there is no help for {}", quoted_if_odd(word)))),
-        },
+    let named: Vec<&OsStr> = words.iter().map(OsString::as_os_str).collect();
+    match (Verb::named(&named), words) {
+        (Some(verb), _) => Ok(Request::Help(Topic::One(verb))),
+        (None, []) => Ok(Request::Help(Topic::All)),
+        (None, [word]) if word == "help" => Ok(Request::Help(Topic::All)),
+        (None, [word]) if word == "script" => Ok(Request::Help(Topic::Script)),
+        (None, [word]) => Err(usage(format!("there is no help for {}", quoted_if_odd(word)))),
         _ => Err(usage("help takes one verb".to_string())),
     }
 }
@@ -83,9 +112,7 @@ fn given(verb: Verb, mut words: impl Iterator<Item = OsString>) -> Result<Given,
                 break;
             }
             _ if is_help(&word) => return Err(surplus_help(verb, &word)),
-            Some("-q") if verb == Verb::Check => given.quiet = true,
-            Some("--json") if matches!(verb, Verb::Check | Verb::Explain | Verb::Show) => given.json = true,
-            Some("-o") if verb == Verb::Compose => take_target(&mut given, words.next())?,
+            Some(option) if verb.has(option) => take_option(&mut given, option, &mut words)?,
             _ if is_option(&word) => return Err(usage(format!("{} has no option {}", verb.name(), quoted_if_odd(&word)))),
             _ => given.names.push(word),
         }
@@ -103,25 +130,95 @@ fn is_option(word: &OsStr) -> bool {
     word.len() > 1 && word.as_encoded_bytes()[0] == b'-'
 }
 
-fn take_target(given: &mut Given, word: Option<OsString>) -> Result<(), Trouble> {
-    let Some(word) = word else { return Err(usage("-o needs the name of a file".to_string())) };
-    match given.to.replace(word) {
+/// An option that the verb has, with the word after it where it needs one.
+fn take_option(given: &mut Given, option: &str, words: &mut impl Iterator<Item = OsString>) -> Result<(), Trouble> {
+    match option {
+        "-q" => given.quiet = true,
+        "--json" => given.json = true,
+        "-o" => {
+            let word = words.next().ok_or_else(|| usage("-o needs the name of a file".to_string()))?;
+            once(option, given.to.replace(word))?;
+        }
+        "--last" => once(option, given.last.replace(number(option, words.next())?))?,
+        "--from" => once(option, given.from_tick.replace(number(option, words.next())?))?,
+        _ => once(option, given.to_tick.replace(number(option, words.next())?))?,
+    }
+    Ok(())
+}
+
+/// Nothing may have been given before.
+fn once<T>(option: &str, before: Option<T>) -> Result<(), Trouble> {
+    match before {
         None => Ok(()),
-        Some(_) => Err(usage("-o is given twice".to_string())),
+        Some(_) => Err(usage(format!("{option} is given twice"))),
     }
 }
 
+/// A number of ticks.
+fn number(option: &str, word: Option<OsString>) -> Result<u32, Trouble> {
+    let Some(word) = word else { return Err(usage(format!("{option} needs a number of ticks"))) };
+    let digits = word.to_str().filter(|digits| digits.bytes().all(|byte| byte.is_ascii_digit()));
+    let number = digits.and_then(|digits| digits.parse().ok());
+    number.ok_or_else(|| usage(format!("{option} needs a number of ticks, which {} is not", quoted_if_odd(&word))))
+}
+
 fn request(verb: Verb, given: Given) -> Result<Request, Trouble> {
-    let Given { quiet, json, to, names } = given;
+    let Given { quiet, json, to, last, from_tick, to_tick, names } = given;
+    let to = to.map(target);
     match verb {
         Verb::Check => Ok(Request::Check(CheckOptions { quiet, json, sources: sources(names)? })),
         Verb::Report => Ok(Request::Report(source(verb, names)?)),
         Verb::Explain => Ok(Request::Explain { json, source: source(verb, names)? }),
         Verb::Show => Ok(Request::Show { json, source: source(verb, names)? }),
-        Verb::Compose => Ok(Request::Compose { table: source(verb, names)?, to: to.map(target) }),
+        Verb::Compose => Ok(Request::Compose { table: source(verb, names)?, to }),
+        Verb::Play => {
+            let (sheet, script) = two(verb, names)?;
+            Ok(Request::Play(PlayOptions { json, last, sheet, script }))
+        }
+        Verb::Worst => worst(json, named(verb, names, 1, 1)?.remove(0), to),
+        Verb::Draw => {
+            let mut names = named(verb, names, 1, 2)?.into_iter();
+            let (sheet, script) = (names.next().expect("one name at least"), names.next());
+            Ok(Request::Draw(DrawOptions { sheet, script, to, from_tick, to_tick }))
+        }
+        Verb::ScriptCompose => {
+            let (sheet, text) = two(verb, names)?;
+            Ok(Request::ScriptCompose { sheet, text, to })
+        }
+        Verb::ScriptShow => {
+            let (sheet, script) = two(verb, names)?;
+            Ok(Request::ScriptShow { json, sheet, script })
+        }
         Verb::Refusals if names.is_empty() => Ok(Request::Refusals),
         Verb::Refusals => Err(usage("refusals takes no file".to_string())),
     }
+}
+
+/// An object and a script cannot both go to standard output.
+fn worst(json: bool, sheet: Name, to: Option<Name>) -> Result<Request, Trouble> {
+    match to {
+        Some(Name::File(_)) => Ok(Request::Worst { json, sheet, to }),
+        _ if json => Err(usage("worst --json needs -o FILE: standard output is for the object then".to_string())),
+        _ => Ok(Request::Worst { json, sheet, to }),
+    }
+}
+
+/// A sheet and what goes with it.
+fn two(verb: Verb, names: Vec<OsString>) -> Result<(Name, Name), Trouble> {
+    let mut names = named(verb, names, 2, 2)?;
+    let second = names.remove(1);
+    Ok((names.remove(0), second))
+}
+
+/// So many files, each of which must be named; standard input once at most.
+fn named(verb: Verb, names: Vec<OsString>, least: usize, most: usize) -> Result<Vec<Name>, Trouble> {
+    if names.len() < least {
+        return Err(usage(format!("{} needs {}: burrbeech {}", verb.name(), verb.needs(), verb.usage())));
+    }
+    if let Some(word) = names.get(most) {
+        return Err(usage(format!("{} takes {}, and {} is one more", verb.name(), verb.needs(), quoted_if_odd(word))));
+    }
+    sources(names)
 }
 
 fn name(word: OsString) -> Name {
@@ -180,9 +277,28 @@ mod tests {
         assert_eq!(parsed("compose t -o f").unwrap(), Request::Compose { table: file("t"), to: Some(file("f")) });
         assert_eq!(parsed("compose -o -").unwrap(), Request::Compose { table: Name::StandardInput, to: Some(Name::StandardOutput) });
         assert_eq!(parsed("check -- -h").unwrap(), check(false, false, vec![file("-h")]));
-        assert_eq!(parsed("show --help").unwrap(), Request::Help(Some(Verb::Show)));
-        assert_eq!(parsed("help explain").unwrap(), Request::Help(Some(Verb::Explain)));
-        assert_eq!(parsed("-h").unwrap(), Request::Help(None));
+        assert_eq!(parsed("show --help").unwrap(), Request::Help(Topic::One(Verb::Show)));
+        assert_eq!(parsed("help explain").unwrap(), Request::Help(Topic::One(Verb::Explain)));
+        assert_eq!(parsed("-h").unwrap(), Request::Help(Topic::All));
+    }
+
+    #[test]
+    fn requests_about_runs() {
+        let play = |json, last, script| Request::Play(PlayOptions { json, last, sheet: file("s"), script });
+        assert_eq!(parsed("play s r").unwrap(), play(false, None, file("r")));
+        assert_eq!(parsed("play s --last 40 - --json").unwrap(), play(true, Some(40), Name::StandardInput));
+        assert_eq!(parsed("worst s -o r --json").unwrap(), Request::Worst { json: true, sheet: file("s"), to: Some(file("r")) });
+        assert_eq!(parsed("worst -").unwrap(), Request::Worst { json: false, sheet: Name::StandardInput, to: None });
+        let draw = |script, to, from_tick, to_tick| Request::Draw(DrawOptions { sheet: file("s"), script, to, from_tick, to_tick });
+        assert_eq!(parsed("draw s").unwrap(), draw(None, None, None, None));
+        assert_eq!(parsed("draw --from 0 s --to 20 r -o p").unwrap(), draw(Some(file("r")), Some(file("p")), Some(0), Some(20)));
+        let compose = Request::ScriptCompose { sheet: file("s"), text: Name::StandardInput, to: Some(file("r")) };
+        assert_eq!(parsed("script compose s - -o r").unwrap(), compose);
+        assert_eq!(parsed("script show s r --json").unwrap(), Request::ScriptShow { json: true, sheet: file("s"), script: file("r") });
+        assert_eq!(parsed("help script").unwrap(), Request::Help(Topic::Script));
+        assert_eq!(parsed("script -h").unwrap(), Request::Help(Topic::Script));
+        assert_eq!(parsed("help script show").unwrap(), Request::Help(Topic::One(Verb::ScriptShow)));
+        assert_eq!(parsed("script compose --help").unwrap(), Request::Help(Topic::One(Verb::ScriptCompose)));
     }
 
     #[test]
@@ -190,7 +306,11 @@ mod tests {
         let lines =
             "|frobnicate|check --quiet|check -x|check - -|report a b|report --json|report -q a|explain a b|show a b|show -o x|compose -o|\
                      compose -o a -o b|compose a b|refusals x|refusals --json|help nosuch|help check show|--version x|--json|\
-                     show --help x|check x -h|check -q -h|check -h -h|compose -o x -h|refusals -h x|-h x|--help check|help -h";
+                     play|play s|play - -|play s r x|play s r --last|play s r --last -1|play s r --last 1 --last 2|play s r -o x|\
+                     play s r --from 1|worst|worst s r|worst --json s|worst --json s -o -|worst s --last 3|draw|draw s r x|draw - -|\
+                     draw s --json|draw s --from|draw s --from x|draw s --to 1 --to 2|draw s --to 4294967296|script|script nosuch|\
+                     script compose|script compose s|script compose s t x|script compose s t --json|script show s|script show s r -o x|\
+                     script -h x|help script nosuch|help script show x|script show s r -h|show --help x|check x -h|check -q -h|check -h -h|compose -o x -h|refusals -h x|-h x|--help check|help -h";
         for line in lines.split('|') {
             assert!(matches!(parsed(line), Err(Trouble::Usage(_))), "{line}");
         }

@@ -1,4 +1,5 @@
 //! `compose`: a sheet from a table, by the library's writer.
+use crate::delivery::Made;
 use crate::faults;
 use crate::input;
 use crate::library::{self, Refusal};
@@ -7,11 +8,7 @@ use crate::output::{complain, Output};
 use crate::set::{Set, MOST_TASKS};
 use crate::status::{Status, Trouble};
 use crate::table::{self, Table};
-use crate::{whole_file, words};
-use std::fs::{self, Metadata};
-use std::io;
-use std::os::unix::fs::MetadataExt;
-use std::path::Path;
+use crate::words;
 
 /// No table of sixteen tasks comes near this many bytes.
 const MOST_BYTES: usize = 1 << 20;
@@ -25,7 +22,8 @@ pub fn run(name: &Name, to: Option<&Name>, output: &mut Output) -> Result<Status
     match library::write(table.policy, &table.tasks)? {
         Ok(sheet) => {
             read_back(&sheet, table)?;
-            deliver(&sheet, name, to, output).map(|()| Status::Done)
+            let made = Made { not_for_a_terminal: "a sheet is no text", of: &[(name, "the table")] };
+            made.deliver(&sheet, to, output).map(|()| Status::Done)
         }
         Err(refusal) => {
             complain(&refused(name, &table, refusal)?);
@@ -55,32 +53,6 @@ fn refused(name: &Name, table: &Table, refusal: Refusal) -> Result<Trouble, Trou
     let line = line.copied().unwrap_or(table.columns_line);
     let advice = if fault.advice.is_empty() { String::new() } else { format!(". {}", fault.advice) };
     Ok(Trouble::Line(name.clone(), line, format!("{}: {}{advice}", words::refused(refusal), fault.words)))
-}
-
-fn deliver(sheet: &[u8], table: &Name, to: Option<&Name>, output: &mut Output) -> Result<(), Trouble> {
-    let Some(Name::File(path)) = to else {
-        if output.is_terminal() {
-            return Err(Trouble::File(Name::StandardOutput, "a sheet is no text: give `-o FILE` or send the output to a file".to_string()));
-        }
-        return output.put(sheet);
-    };
-    let (name, path) = (Name::File(path.clone()), Path::new(path));
-    if is_same_file(input::metadata(table), path) {
-        return Err(Trouble::File(name, "this is the table itself: it would be lost".to_string()));
-    }
-    // by another name, such as `/dev/stdout`: what the file holds already is the caller's
-    if is_same_file(output.metadata(), path) {
-        return output.put(sheet);
-    }
-    whole_file::write(path, sheet).map_err(|error| Trouble::of_file(&name, &error))
-}
-
-/// The one may be a standard stream, and the path may be a link.
-fn is_same_file(one: io::Result<Metadata>, path: &Path) -> bool {
-    match (one, fs::metadata(path)) {
-        (Ok(one), Ok(other)) => one.is_file() && (one.dev(), one.ino()) == (other.dev(), other.ino()),
-        _ => false,
-    }
 }
 
 #[cfg(test)]

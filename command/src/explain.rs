@@ -20,14 +20,16 @@ pub fn run(json: bool, name: &Name, output: &mut Output) -> Result<Status, Troub
             let text = if json { explain_json::judged(name, &findings)? } else { judged(name, &findings)? };
             (text, status_of_verdict(findings.verdict))
         }
-        Err(refusal) => {
-            let fault = faults::of_sheet(refusal, &bytes)?;
-            let text = if json { explain_json::refused(name, refusal, &fault) } else { refused(name, refusal, &fault) };
-            (text, Status::Refused)
-        }
+        Err(refusal) => (refused_sheet(json, name, refusal, &bytes)?, Status::Refused),
     };
     output.put(text.as_bytes())?;
     Ok(status)
+}
+
+/// What is said of a refused sheet, in words or as an object.
+pub fn refused_sheet(json: bool, name: &Name, refusal: Refusal, sheet: &[u8]) -> Result<String, Trouble> {
+    let fault = faults::of_sheet(refusal, sheet)?;
+    Ok(if json { explain_json::refused(name, refusal, &fault) } else { refused(name, refusal, &fault) })
 }
 
 fn refused(name: &Name, refusal: Refusal, fault: &Fault) -> String {

@@ -5,7 +5,7 @@ use crate::library::{NoStart, Refusal};
 use crate::set::{policy_name, Task, GREATEST_SHEET, LEAST_SHEET, MOST_FRAMES, MOST_TASKS, MOST_TICKS, POLICIES};
 use crate::sheet_bits::{self, End, SheetBits, FIXED_BITS, VERSION};
 use crate::status::Trouble;
-use crate::words::{counted, in_words, joined};
+use crate::words::{counted, in_words, is_text, joined};
 use std::borrow::Cow;
 
 /// The part of a sheet that has the fault.
@@ -86,10 +86,6 @@ fn unseen(refusal: Refusal) -> Trouble {
 }
 
 const TEXT_ADVICE: &str = "This is text, not a sheet: `burrbeech compose` makes a sheet from a task table.";
-
-fn is_text(bytes: &[u8]) -> bool {
-    !bytes.is_empty() && bytes.iter().all(|byte| byte.is_ascii_graphic() || byte.is_ascii_whitespace())
-}
 
 /// 1.
 fn length(sheet: &[u8]) -> Option<Fault> {

@@ -8,14 +8,40 @@ pub enum Verb {
     Explain,
     Show,
     Compose,
+    Play,
+    Worst,
+    Draw,
+    ScriptCompose,
+    ScriptShow,
     Refusals,
 }
 
-const VERBS: [Verb; 6] = [Verb::Check, Verb::Report, Verb::Explain, Verb::Show, Verb::Compose, Verb::Refusals];
+const VERBS: [Verb; 11] = [
+    Verb::Check,
+    Verb::Report,
+    Verb::Explain,
+    Verb::Show,
+    Verb::Compose,
+    Verb::Play,
+    Verb::Worst,
+    Verb::Draw,
+    Verb::ScriptCompose,
+    Verb::ScriptShow,
+    Verb::Refusals,
+];
+
+/// What help is asked about.
+#[derive(Clone, Copy, Debug, PartialEq, Eq)]
+pub enum Topic {
+    All,
+    One(Verb),
+    /// Both verbs that start with this word.
+    Script,
+}
 
 impl Verb {
-    pub fn named(word: &OsStr) -> Option<Self> {
-        VERBS.into_iter().find(|verb| OsStr::new(verb.name()) == word)
+    pub fn named(words: &[&OsStr]) -> Option<Self> {
+        VERBS.into_iter().find(|verb| verb.name().split(' ').map(OsStr::new).eq(words.iter().copied()))
     }
 
     pub fn name(self) -> &'static str {
@@ -25,17 +51,49 @@ impl Verb {
             Verb::Explain => "explain",
             Verb::Show => "show",
             Verb::Compose => "compose",
+            Verb::Play => "play",
+            Verb::Worst => "worst",
+            Verb::Draw => "draw",
+            Verb::ScriptCompose => "script compose",
+            Verb::ScriptShow => "script show",
             Verb::Refusals => "refusals",
         }
     }
 
-    fn usage(self) -> &'static str {
+    /// Whether this is an option of the verb.
+    pub fn has(self, option: &str) -> bool {
+        match option {
+            "-q" => self == Verb::Check,
+            "--json" => matches!(self, Verb::Check | Verb::Explain | Verb::Show | Verb::Play | Verb::Worst | Verb::ScriptShow),
+            "-o" => matches!(self, Verb::Compose | Verb::Worst | Verb::Draw | Verb::ScriptCompose),
+            "--last" => self == Verb::Play,
+            "--from" | "--to" => self == Verb::Draw,
+            _ => false,
+        }
+    }
+
+    /// The files that a verb about runs takes.
+    pub fn needs(self) -> &'static str {
+        match self {
+            Verb::Worst => "a sheet",
+            Verb::Draw => "a sheet, and a script at most",
+            Verb::ScriptCompose => "a sheet and the text of a script",
+            _ => "a sheet and a script",
+        }
+    }
+
+    pub fn usage(self) -> &'static str {
         match self {
             Verb::Check => "check [-q] [--json] [FILE...]",
             Verb::Report => "report [FILE]",
             Verb::Explain => "explain [--json] [FILE]",
             Verb::Show => "show [--json] [FILE]",
             Verb::Compose => "compose [TABLE] [-o FILE]",
+            Verb::Play => "play [--last N] [--json] SHEET SCRIPT",
+            Verb::Worst => "worst [--json] SHEET [-o FILE]",
+            Verb::Draw => "draw SHEET [SCRIPT] [-o FILE] [--from N] [--to N]",
+            Verb::ScriptCompose => "script compose SHEET TEXT [-o FILE]",
+            Verb::ScriptShow => "script show [--json] SHEET SCRIPT",
             Verb::Refusals => "refusals",
         }
     }
@@ -47,6 +105,11 @@ impl Verb {
             Verb::Explain => "why a sheet holds, misses or is refused, in words",
             Verb::Show => "the set of a sheet as a text table",
             Verb::Compose => "a sheet from a text table",
+            Verb::Play => "how the run of a script ends: the miss, or all done",
+            Verb::Worst => "the worst run of a set that misses, as a script",
+            Verb::Draw => "a run, or the worst run, as a picture (SVG)",
+            Verb::ScriptCompose => "a run script from its text",
+            Verb::ScriptShow => "a run script as text",
             Verb::Refusals => "the numbers of refusals in words",
         }
     }
@@ -58,8 +121,17 @@ impl Verb {
             Verb::Explain => EXPLAIN,
             Verb::Show => SHOW,
             Verb::Compose => COMPOSE,
+            Verb::Play => PLAY,
+            Verb::Worst => WORST,
+            Verb::Draw => DRAW,
+            Verb::ScriptCompose => SCRIPT_COMPOSE,
+            Verb::ScriptShow => SCRIPT_SHOW,
             Verb::Refusals => REFUSALS,
         }
+    }
+
+    fn text(self) -> String {
+        format!("usage: burrbeech {}\n\n{}: {}.\n\n{}", self.usage(), self.name(), self.summary(), self.details())
     }
 }
 
@@ -67,25 +139,28 @@ pub fn version() -> String {
     format!("burrbeech {}\n", env!("BURRBEECH_VERSION"))
 }
 
-pub fn text(verb: Option<Verb>) -> String {
-    match verb {
-        Some(verb) => format!("usage: burrbeech {}\n\n{}: {}.\n\n{}", verb.usage(), verb.name(), verb.summary(), verb.details()),
-        None => {
-            let lines: String = VERBS.iter().map(|verb| format!("  burrbeech {:<32}{}\n", verb.usage(), verb.summary())).collect();
-            format!("burrbeech decides whether the tasks of a task sheet meet their deadlines.\n\n{lines}{OTHERS}\n{COMMON}")
+pub fn text(topic: &Topic) -> String {
+    match topic {
+        Topic::One(verb) => verb.text(),
+        Topic::Script => format!("{}\n{}", Verb::ScriptCompose.text(), Verb::ScriptShow.text()),
+        Topic::All => {
+            let lines: String = VERBS.iter().map(|verb| format!("  burrbeech {:<52}{}\n", verb.usage(), verb.summary())).collect();
+            format!("burrbeech decides whether the tasks of a task sheet meet their deadlines, and plays runs of them.\n\n{lines}{OTHERS}\n{COMMON}")
         }
     }
 }
 
-const OTHERS: &str = "  burrbeech help [VERB]                     this text (also --help), or that of a verb
-  burrbeech --version                       the version
+const OTHERS: &str = "  burrbeech help [VERB]                                         this text (also --help), or that of a verb
+  burrbeech --version                                           the version
 ";
 
-const COMMON: &str = "No FILE, or `-`, is standard input. `--` ends the options.
+const COMMON: &str =
+    "No FILE, or `-`, is standard input; SHEET, SCRIPT and TEXT must be given, and one of them may be `-`. `--` ends the options.
 Times are ticks; tasks and frames count from 0.
 
 Exit status, the worst deciding: 0 all hold (or: done), 1 some missed, 2 some refused, 3 usage or input/output.
-Every verdict, time, refusal and sheet comes from the proved library; the words around them are not proved.
+Every verdict, time, refusal and sheet, how a play ends, what each of its ticks has and every worst run comes from the proved library; the
+words and pictures around them are not proved.
 ";
 
 const CHECK: &str = "Prints one line for each FILE and then the totals:
@@ -162,8 +237,82 @@ A line that is wrong is named on standard error as TABLE:LINE, and nothing is wr
 Exit status: 0 written, 2 the set is refused, 3 the text is no table, not read or not written, or usage.
 ";
 
+const PLAY: &str = "Plays the run of SCRIPT on the set of SHEET, tick by tick, up to the first miss (of a moment's misses that of the lower task number) or until
+all jobs are done, and says how it ends; of a miss the task, the moment, and the job: when it was released, its frame, when it was due and
+how much of its work is left. Then a line for each task in priority order: its jobs, and how long the longest took.
+On a terminal the last 60 ticks follow as lanes, a character for each tick: x runs, L runs in a locked stretch, . waits, ! misses.
+
+  --last N  shows the last N ticks so, on a terminal or not; 0 for none
+  --json    prints one object:
+  {\"file\":SCRIPT,\"sheet\":SHEET,\"verdict\":\"missed\",\"tasks\":COUNT,\"tick\":MOMENT,\"task\":TASK,\"released\",\"frame\",\"due\",\"work\",\"left\",...
+  {\"file\":SCRIPT,\"sheet\":SHEET,\"verdict\":\"done\",\"tasks\":COUNT,\"tick\":MOMENT,\"task\":null,...
+    both: \"jobs\":COUNT,\"order\":[TASK...],\"list\":[{\"task\",\"jobs\",\"done\",\"longest\":{\"ticks\",\"released\",\"frame\"} or null}...]}
+  {\"file\":SCRIPT,\"sheet\":SHEET,\"verdict\":\"refused\",\"refusal\":13 or 14,\"item\":ITEM or null,\"words\":TEXT,\"fault\":TEXT,\"advice\":TEXT}
+  {\"file\":SCRIPT,\"sheet\":SHEET,\"verdict\":null,\"error\":TEXT}        (not read; standard error has the message as well)
+  of a refused sheet the object of `explain --json`
+
+A moment is the end of the tick before it: moment 5 is the end of tick 4. An item is a first frame or an entry of the script, counted
+together from 0.
+
+Exit status: 0 all jobs are done, 1 a job misses, 2 the sheet or the script is refused, 3 not read, or usage.
+";
+
+const WORST: &str = "Of a set that misses, writes the worst run of the missed task's first frame without a response time as a script, to standard output or to
+FILE with -o: the whole file or none. Its play ends with that miss. Of a set that holds it says so and writes nothing.
+What is said stands on standard output, or on standard error where the script goes there.
+
+  --json  prints one object, that of `check --json`, and of a missed set also \"frame\":FRAME, \"released\":1, \"tick\":MOMENT (of the miss),
+          \"entries\":COUNT, \"bytes\":COUNT, \"script\":FILE; of a refused sheet that of `explain --json`; it needs -o FILE
+
+Exit status, that of the set: 0 holds (nothing is written), 1 missed (the script is written), 2 refused, 3 not read or not written, or usage.
+";
+
+const DRAW: &str = "Writes a timeline of the run as an SVG picture, to standard output or to FILE with -o: the whole file or none. There is a lane for each
+task, the highest priority on top: releases are arrows up, deadlines arrows down, running and locked ticks boxes of two colours, waiting
+grey; idle ticks are at the bottom, and a miss is a red cross. Without SCRIPT it is the worst run of a set that misses; of a set that holds
+it says so and writes nothing. It chooses its scale; where a tick is narrower than a pixel the height of a colour is its share of the ticks,
+and the first and the last 60 ticks are drawn once more, enlarged.
+What is said stands on standard output, or on standard error where the picture goes there.
+
+  --from N  draws from tick N on
+  --to N    draws up to moment N, which is the end of tick N - 1
+
+Exit status: 0 no job misses in the run, or the set holds and nothing is drawn, 1 a job misses, 2 the sheet or the script is refused,
+3 not read or not written, or usage.
+";
+
+const SCRIPT_COMPOSE: &str =
+    "Writes the run script of a text, for the tasks of SHEET, to standard output or to FILE with -o: the whole file or none.
+
+  # a comment runs to the end of its line
+  first-frames 0 0                # the frame of each task's first job; later jobs take the following frames, going round
+  task  tick  work  lock          # this line must stand there as it is
+  1        0     4     4          # a release: of task 1, at tick 0, with work 4; each time it is picked it locks for 4 ticks
+  0        1     2     0          # a lock of 0 or 1 locks nothing
+
+Releases go by tick, and in a tick by task number. Those of a task are at least its period apart; work is at most the time of the job's
+frame, and a lock at most the task's. Numbers are decimal digits, no tick, work or lock is above 1048575.
+A line that is wrong is named on standard error as TEXT:LINE with the rule and by how much it breaks it, and nothing is written.
+No line may have `<==`, in a comment either: `script show` marks a fault with it.
+
+Exit status: 0 written, 2 the sheet or the script is refused, 3 the text is no script, not read or not written, or usage.
+";
+
+const SCRIPT_SHOW: &str = "Prints the text that `script compose` reads; composed, it gives the same bytes again. Of a refused script it prints what can be read, with
+the fault marked by `<==`; the first line is then `refused` and the number, which no text has. `script compose` takes it when the fault is
+mended and that line and the mark, with what follows it, are deleted.
+
+  --json  prints one object:
+  {\"file\":SCRIPT,\"sheet\":SHEET,\"admitted\":true,\"tasks\":COUNT,\"first_frames\":[...],\"entries\":COUNT,
+   \"list\":[{\"task\",\"tick\",\"work\",\"lock\"}...]}
+  of a refused script or sheet, and of what is not read, that of `play --json`
+
+Exit status: 0 admitted, 2 the sheet or the script is refused, 3 not read, or usage.
+";
+
 const REFUSALS: &str =
     "Prints a line for each number. Of several faults the first decides: 1, 2, 3, 4, 5 for the header, 6; then task by task 7 and 8;
 then 8 and 5 for what follows the records; then task by task 9, 10, 11. 12 is said to C programs only.
-`explain` says what is wrong in a sheet.
+13 and 14 are about a run script, after all of its sheet's own; 14 names the first item at fault, first frames and entries counted together
+from 0. `explain` says what is wrong in a sheet, `play` and `script show` what is wrong in a script.
 ";

@@ -1,5 +1,6 @@
 //! Reading files and standard input, no further than decides.
 use crate::names::Name;
+use crate::script;
 use crate::set::GREATEST_SHEET;
 use crate::status::Trouble;
 use crate::streams;
@@ -30,15 +31,26 @@ pub fn sheet(name: &Name) -> Result<Vec<u8>, Trouble> {
     next_sheet(name, &mut Pipes::default())
 }
 
-/// The bytes of one sheet of several. A pipe with a name is looked at before it is opened: the second time that would wait for a writer.
+/// The bytes of one sheet of several inputs.
 pub fn next_sheet(name: &Name, pipes: &mut Pipes) -> Result<Vec<u8>, Trouble> {
+    next_at_most(GREATEST_SHEET + 1, name, pipes)
+}
+
+/// The bytes of a script: one past the longest is enough to know that it is none.
+pub fn next_script(name: &Name, pipes: &mut Pipes) -> Result<Vec<u8>, Trouble> {
+    next_at_most(script::MOST_BYTES + 1, name, pipes)
+}
+
+/// The first bytes of one of several inputs, so many at most. A pipe with a name is looked at before it is opened: the second time that
+/// would wait for a writer.
+pub fn next_at_most(most: usize, name: &Name, pipes: &mut Pipes) -> Result<Vec<u8>, Trouble> {
     let known = metadata(name).map_err(|error| Trouble::of_file(name, &error))?;
     if pipes.have(&known) {
         return Err(Trouble::File(name.clone(), "this pipe was read already, and nothing is left of it".to_string()));
     }
     let file = open(name)?;
     pipes.note(&known);
-    read(file, GREATEST_SHEET + 1, name)
+    read(file, most, name)
 }
 
 /// The first bytes of a file, so many at most.

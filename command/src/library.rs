@@ -170,7 +170,7 @@ pub fn report(sheet: &[u8]) -> Result<Vec<u8>, Trouble> {
 }
 
 /// The refusal, or what the detail of a success stands for. 12 cannot be: all the room that there can be need of is lent.
-fn decoded<T>(answer: u64, success: impl FnOnce(u64) -> Option<T>) -> Answer<T> {
+pub fn decoded<T>(answer: u64, success: impl FnOnce(u64) -> Option<T>) -> Answer<T> {
     let (number, detail) = ((answer & 0xFF) as u32, answer >> 8);
     let refused = |task, no_start| Ok(Err(Refusal { number, task, no_start }));
     match number {
@@ -194,7 +194,7 @@ fn no_start_of(detail: u64) -> Option<(usize, NoStart)> {
     known.then_some((task, NoStart { frame, length, other_frame }))
 }
 
-fn odd(answer: u64) -> Trouble {
+pub fn odd(answer: u64) -> Trouble {
     Trouble::Disagreement(format!("the library's answer {answer} stands for nothing that it can say here"))
 }
 

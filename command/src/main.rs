@@ -1,11 +1,15 @@
-//! `burrbeech`, the command: it moves files, words and exit codes. Every verdict, every time, every refusal and every sheet comes from the
-//! proved library; what is added in words is checked against its answers where it can be.
+//! `burrbeech`, the command: it moves files, words, pictures and exit codes. Every verdict, every time, every refusal, every sheet, the end
+//! and the ticks of every play and every worst run come from the proved library; what is added in words is checked against its answers
+//! where it can be.
 #![deny(unsafe_code)]
 mod answers;
 mod arguments;
 mod check;
 mod compose;
+mod course;
+mod delivery;
 mod demand;
+mod draw;
 mod explain;
 mod explain_json;
 mod faults;
@@ -14,19 +18,32 @@ mod frames;
 mod help;
 mod input;
 mod json;
+mod lanes;
 mod library;
 mod names;
 mod output;
+mod panel;
+mod picture;
+mod play;
+mod play_json;
+mod plays;
 mod report;
+mod script;
+mod script_compose;
+mod script_faults;
+mod script_show;
+mod script_text;
 mod set;
 mod sheet_bits;
 mod show;
 mod show_json;
 mod status;
 mod streams;
+mod svg;
 mod table;
 mod whole_file;
 mod words;
+mod worst;
 
 use arguments::Request;
 use output::Output;
@@ -46,13 +63,22 @@ fn main() -> ExitCode {
 
 fn run(request: Request, output: &mut Output) -> Result<Status, Trouble> {
     match request {
-        Request::Help(verb) => output.put(help::text(verb).as_bytes()).map(|()| Status::Done),
+        Request::Help(topic) => output.put(help::text(&topic).as_bytes()).map(|()| Status::Done),
         Request::Version => output.put(help::version().as_bytes()).map(|()| Status::Done),
         Request::Refusals => output.put(words::refusals().as_bytes()).map(|()| Status::Done),
         Request::Check(options) => check::run(&options, output),
         Request::Report(source) => report::run(&source, output).map_err(|trouble| trouble.about(&source)),
         Request::Explain { json, source } => explain::run(json, &source, output).map_err(|trouble| trouble.about(&source)),
         Request::Show { json, source } => show::run(json, &source, output).map_err(|trouble| trouble.about(&source)),
+        Request::Play(options) => play::run(&options, output).map_err(|trouble| trouble.about(&options.script)),
+        Request::Worst { json, sheet, to } => worst::run(json, &sheet, to.as_ref(), output).map_err(|trouble| trouble.about(&sheet)),
+        Request::Draw(options) => draw::run(&options, output).map_err(|trouble| trouble.about(&options.sheet)),
+        Request::ScriptCompose { sheet, text, to } => {
+            script_compose::run(&sheet, &text, to.as_ref(), output).map_err(|trouble| trouble.about(&text))
+        }
+        Request::ScriptShow { json, sheet, script } => {
+            script_show::run(json, &sheet, &script, output).map_err(|trouble| trouble.about(&script))
+        }
         Request::Compose { table, to } => compose::run(&table, to.as_ref(), output).map_err(|trouble| trouble.about(&table)),
     }
 }

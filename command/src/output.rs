@@ -86,5 +86,10 @@ pub fn complain(trouble: &Trouble) {
         Trouble::Disagreement(words) => format!("burrbeech: {DISAGREEMENT}: {words}\n"),
         Trouble::BrokenPipe => return,
     };
+    tell(&words);
+}
+
+/// Says on standard error what is no trouble, where standard output is for something else.
+pub fn tell(words: &str) {
     let _ = io::stderr().write_all(words.as_bytes());
 }

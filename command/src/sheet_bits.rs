@@ -1,7 +1,7 @@
 //! The fields of a sheet as they stand, for words about a refused one. Nothing is decided here.
 use crate::set::{Task, GREATEST_SHEET, LEAST_SHEET, MOST_FRAMES};
 
-const CHECK_BYTES: usize = 2;
+pub const CHECK_BYTES: usize = 2;
 const TICKS_BITS: usize = 20;
 
 /// The bits of a record before its frames.
@@ -131,8 +131,8 @@ fn read_record(bits: &mut Bits) -> (RecordBits, Option<usize>) {
     (record, cut.then_some(there))
 }
 
-/// The check word bit by bit, to tell what it should have been.
-fn check_word(bytes: &[u8]) -> u16 {
+/// The check word bit by bit: of a sheet to tell what it should have been, of a script that the command makes to seal it.
+pub fn check_word(bytes: &[u8]) -> u16 {
     let shift = |word: u16| if word & 0x8000 != 0 { word << 1 ^ 0x1021 } else { word << 1 };
     bytes.iter().fold(0xFFFF, |word, &byte| (0..8).fold(word ^ u16::from(byte) << 8, |word, _| shift(word)))
 }

@@ -70,12 +70,17 @@ fn words(line: &[u8]) -> Vec<&[u8]> {
     line.split(u8::is_ascii_whitespace).filter(|word| !word.is_empty()).collect()
 }
 
-/// The table in a text, unless a fault is still marked in it: a mark stands in a comment.
+/// The table in a text, unless a fault is still marked in it.
 pub fn parse(text: &[u8]) -> Result<Table, BadLine> {
     let table = lines_of(text)?;
+    unmarked(text).map(|()| table)
+}
+
+/// No line has the mark of a fault, which stands in a comment.
+pub fn unmarked(text: &[u8]) -> Result<(), BadLine> {
     let is_marked = |line: &[u8]| line.windows(MARK.len()).any(|bytes| bytes == MARK.as_bytes());
     match text.split(|&byte| byte == b'\n').position(is_marked) {
-        None => Ok(table),
+        None => Ok(()),
         Some(i) => Err(BadLine {
             line: i + 1,
             words: format!("this line has the mark `{MARK}` of a fault: mend it, then delete the mark and what follows it"),
@@ -83,11 +88,16 @@ pub fn parse(text: &[u8]) -> Result<Table, BadLine> {
     }
 }
 
-/// A policy line, the column names, then the tasks.
-fn lines_of(text: &[u8]) -> Result<Table, BadLine> {
+/// The lines that have words, counted from 1; a mark of the byte order may stand before the first.
+pub fn lines_with_words(text: &[u8]) -> impl Iterator<Item = (usize, Vec<&[u8]>)> {
     let text = text.strip_prefix("\u{feff}".as_bytes()).unwrap_or(text);
     let lines = text.split(|&byte| byte == b'\n').enumerate().map(|(i, line)| (i + 1, words(line)));
-    let mut lines = lines.filter(|(_, words)| !words.is_empty());
+    lines.filter(|(_, words)| !words.is_empty())
+}
+
+/// A policy line, the column names, then the tasks.
+fn lines_of(text: &[u8]) -> Result<Table, BadLine> {
+    let mut lines = lines_with_words(text);
     let bad = |line: usize, words: String| BadLine { line, words };
     let last = text.split(|&byte| byte == b'\n').count();
     let (policy_line, words) = lines.next().ok_or_else(|| bad(last, "the table has no line `policy ...`".to_string()))?;
@@ -134,7 +144,7 @@ fn row(expected: usize, words: &[&[u8]]) -> Result<Task, String> {
 }
 
 /// Decimal digits that fit 32 bits; whether the number is in range the library says.
-fn number(field: &str, word: &[u8]) -> Result<u32, String> {
+pub fn number(field: &str, word: &[u8]) -> Result<u32, String> {
     if !word.iter().all(u8::is_ascii_digit) {
         return Err(format!("{field} {} is no number: only decimal digits are allowed", quoted(word)));
     }

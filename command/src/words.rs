@@ -1,9 +1,10 @@
 //! The words for verdicts, policies and refusal numbers.
 use crate::library::{Refusal, Verdict};
+use crate::plays::ScriptRefusal;
 use crate::set::policy_name;
 
 /// What each refusal number says, from 1 on, in the words of `burrbeech_refusal_words` of the header.
-const REFUSALS: [&str; 12] = [
+const REFUSALS: [&str; 14] = [
     "shorter than 15 or longer than 452 bytes",
     "check word wrong",
     "version not 1",
@@ -16,6 +17,8 @@ const REFUSALS: [&str; 12] = [
     "lock above the largest frame",
     "not accumulatively monotonic",
     "lent room too small",
+    "length, fill or check word of the script wrong",
+    "a first frame or an entry of the script out of range, out of order or against a run rule",
 ];
 
 /// The short words for a refusal's number.
@@ -34,6 +37,30 @@ pub fn refused(refusal: Refusal) -> String {
     match refusal.task {
         Some(task) => format!("refused {} (task {task})", refusal.number),
         None => format!("refused {}", refusal.number),
+    }
+}
+
+/// `refused 14 (item 3)`.
+pub fn script_refused(refusal: ScriptRefusal) -> String {
+    match refusal.item() {
+        Some(item) => format!("refused {} (item {item})", refusal.number()),
+        None => format!("refused {}", refusal.number()),
+    }
+}
+
+/// `5, the end of tick 4`: a moment of a run.
+pub fn moment(tick: u32) -> String {
+    match tick.checked_sub(1) {
+        Some(before) => format!("{tick}, the end of tick {before}"),
+        None => "0, before any tick".to_string(),
+    }
+}
+
+/// `1 entry`, `2 entries`.
+pub fn entries(count: usize) -> String {
+    match count {
+        1 => "1 entry".to_string(),
+        _ => format!("{count} entries"),
     }
 }
 
@@ -76,6 +103,11 @@ pub fn in_words(length: usize) -> &'static str {
         6 => "six",
         _ => "seven",
     }
+}
+
+/// Whether bytes that should be packed bits are a text.
+pub fn is_text(bytes: &[u8]) -> bool {
+    !bytes.is_empty() && bytes.iter().all(|byte| byte.is_ascii_graphic() || byte.is_ascii_whitespace())
 }
 
 /// Numbers with one string between them.

@@ -85,6 +85,28 @@ static void print_lists(const struct sheet *sheet)
     printf("%s written: %zu bytes, %s\n", sheet->name, written, same ? "the same" : "other ones");
 }
 
+/* The worst run, its play and the ticks of it; the room is enough for the cases. */
+static void print_runs(const struct sheet *sheet)
+{
+    uint8_t script[64], ticks[64];
+    size_t length = burrbeech_worst_run_length(burrbeech_worst_run(sheet->bytes, sheet->len, script, sizeof script));
+    printf("%s worst run: %zu bytes\n", sheet->name, length);
+    uint64_t answer = burrbeech_play(sheet->bytes, sheet->len, script, length);
+    if (burrbeech_refusal(answer) != 0) {
+        printf("%s played: refused %u, item %zu\n", sheet->name, (unsigned)burrbeech_refusal(answer),
+               burrbeech_refusal_item(answer));
+        return;
+    }
+    printf("%s played: task %zu at %u\n", sheet->name, burrbeech_play_task(answer),
+           (unsigned)burrbeech_play_tick(answer));
+    answer = burrbeech_trace(sheet->bytes, sheet->len, script, length, ticks, sizeof ticks);
+    printf("%s traced:", sheet->name);
+    for (size_t tick = 0; tick < burrbeech_play_tick(answer); tick++) {
+        printf(" %zu%s", burrbeech_trace_task(ticks[tick]), burrbeech_trace_locked(ticks[tick]) ? "L" : "");
+    }
+    printf("\n");
+}
+
 static void print_sheet(const struct sheet *sheet)
 {
     uint32_t times[BURRBEECH_TIMES_MAX];
@@ -95,6 +117,7 @@ static void print_sheet(const struct sheet *sheet)
     print_lists(sheet);
     size_t length = burrbeech_report_length(burrbeech_report(sheet->bytes, sheet->len, text, sizeof text));
     fwrite(text, 1, length, stdout);
+    print_runs(sheet);
 }
 
 static void print_sheets(const char *folder)
@@ -108,7 +131,7 @@ static void print_sheets(const char *folder)
 
 static void print_refusals(void)
 {
-    for (uint32_t refusal = BURRBEECH_REFUSAL_LENGTH; refusal <= BURRBEECH_REFUSAL_ROOM; refusal++) {
+    for (uint32_t refusal = BURRBEECH_REFUSAL_LENGTH; refusal <= BURRBEECH_REFUSAL_ITEM; refusal++) {
         printf("%u %s\n", (unsigned)refusal, burrbeech_refusal_words(refusal));
     }
 }

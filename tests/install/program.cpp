@@ -77,6 +77,27 @@ static void print_lists(const std::string &name, const Bytes &sheet)
               << "\n";
 }
 
+static void print_runs(const std::string &name, const Bytes &sheet)
+{
+    Bytes script(64), ticks(64);
+    script.resize(
+        burrbeech_worst_run_length(burrbeech_worst_run(sheet.data(), sheet.size(), script.data(), script.size())));
+    std::cout << name << " worst run: " << script.size() << " bytes\n" << name << " played: ";
+    uint64_t answer = burrbeech_play(sheet.data(), sheet.size(), script.data(), script.size());
+    if (burrbeech_refusal(answer) != 0) {
+        std::cout << "refused " << burrbeech_refusal(answer) << ", item " << burrbeech_refusal_item(answer) << "\n";
+        return;
+    }
+    std::cout << "task " << burrbeech_play_task(answer) << " at " << burrbeech_play_tick(answer) << "\n";
+    answer = burrbeech_trace(sheet.data(), sheet.size(), script.data(), script.size(), ticks.data(), ticks.size());
+    ticks.resize(burrbeech_play_tick(answer));
+    std::cout << name << " traced:";
+    for (size_t tick = 0; tick < ticks.size(); tick++) {
+        std::cout << " " << burrbeech_trace_task(ticks[tick]) << (burrbeech_trace_locked(ticks[tick]) ? "L" : "");
+    }
+    std::cout << "\n";
+}
+
 int main(int argc, char **argv)
 {
     const char *const names[] = {"f", "g", "i"};
@@ -92,6 +113,7 @@ int main(int argc, char **argv)
         uint64_t answer =
             burrbeech_report(sheet.data(), sheet.size(), reinterpret_cast<uint8_t *>(&text[0]), text.size());
         std::cout << text.substr(0, burrbeech_report_length(answer));
+        print_runs(name, sheet);
     }
     return std::cout.flush() ? 0 : 3;
 }

@@ -29,6 +29,9 @@ write_list = entry("write_list", c_uint64, c_uint32, TASKS, BYTES)
 analyse_list = entry("analyse_list", c_uint64, c_uint32, TASKS, NUMBERS)
 analyse_sheet = entry("analyse_sheet", c_uint64, BYTES, NUMBERS)
 report = entry("report", c_uint64, BYTES, BYTES)
+play = entry("play", c_uint64, BYTES, BYTES)
+worst_run = entry("worst_run", c_uint64, BYTES, BYTES)
+trace = entry("trace", c_uint64, BYTES, BYTES, BYTES)
 
 
 def opened(answer):
@@ -70,6 +73,20 @@ def print_lists(name, sheet):
     print(f"{name} written: {written} bytes, {'the same' if back[:written] == sheet[:] else 'other ones'}")
 
 
+def print_runs(name, sheet):
+    script, ticks = (c_uint8 * 64)(), (c_uint8 * 64)()
+    refusal, detail = opened(worst_run(sheet, len(sheet), script, len(script)))
+    length = 0 if refusal else detail
+    print(f"{name} worst run: {length} bytes")
+    refusal, detail = opened(play(sheet, len(sheet), script, length))
+    if refusal:
+        print(f"{name} played: refused {refusal}, item {detail if refusal == 14 else 0}")
+        return
+    print(f"{name} played: task {detail >> 32} at {detail & 0xFFFFFFFF}")
+    refusal, detail = opened(trace(sheet, len(sheet), script, length, ticks, len(ticks)))
+    print(f"{name} traced:", *(f"{tick & 31}{'L' if tick & 32 else ''}" for tick in ticks[: detail & 0xFFFFFFFF]))
+
+
 for name in ("f", "g", "i"):
     content = Path(sys.argv[2], name + ".sheet").read_bytes()
     sheet, times, text = (c_uint8 * len(content))(*content), (c_uint32 * 128)(), (c_uint8 * 2048)()
@@ -77,3 +94,4 @@ for name in ("f", "g", "i"):
     print_analysis(f"{name} sheet", analyse_sheet(sheet, len(sheet), times, len(times)), times)
     print_lists(name, sheet)
     print(bytes(text[: opened(report(sheet, len(sheet), text, len(text)))[1]]).decode("ascii"), end="")
+    print_runs(name, sheet)

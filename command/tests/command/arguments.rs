@@ -5,6 +5,9 @@ use crate::running::{run, shell, shipped_one, Folder, ROOT};
 fn wrong_words_are_usage_errors() {
     let lines = "|frobnicate|check --quiet|check -x a|check -qq|check - -|check a - b -|report a b|report --json a|report -q|explain a b|\
                  explain -q a|show a b|show -o x|compose a b|compose -o|compose -o a -o b|compose --json|refusals x|refusals -q|help nosuch|\
+                 play|play s|play - -|play s r x|play s r --last|play s r --last x|play s r -q|worst|worst s r|worst --json s|worst - -|\
+                 draw|draw s r x|draw s --json|draw s --from|draw s --to -1|draw s -o|script|script nosuch|script compose s|\
+                 script compose s t x|script show s|script show s r -o x|script show s r --last 3|script -h x|script show -h x|help script x|\
                  help check show|help -h|--help nosuch|--help check|-h x|--version x|--version -h|--json|-q|-|--|\
                  check x -h|check -h x|check -q --help|check -h -h|compose -o x -h|refusals -h x|refusals --version";
     for line in lines.split('|') {
@@ -29,13 +32,20 @@ fn help_is_given_in_each_way() {
     for words in [["-h"].as_slice(), &["help"], &["help", "help"]] {
         assert_eq!(run(words).done(0), help.text());
     }
-    for verb in ["check", "report", "explain", "show", "compose", "refusals"] {
+    for verb in ["check", "report", "explain", "show", "compose", "play", "worst", "draw", "refusals"] {
         let text = run(&["help", verb]);
         assert!(text.done(0).starts_with(&format!("usage: burrbeech {verb}")));
         for words in [[verb, "--help"], [verb, "-h"]] {
             assert_eq!(run(&words).done(0), text.text());
         }
     }
+    let both: Vec<String> = ["compose", "show"].map(|verb| run(&["help", "script", verb]).done(0).to_string()).to_vec();
+    for (verb, text) in ["compose", "show"].iter().zip(&both) {
+        assert!(text.starts_with(&format!("usage: burrbeech script {verb}")));
+        assert_eq!(run(&["script", verb, "--help"]).done(0), text);
+    }
+    assert_eq!(run(&["help", "script"]).done(0), both.join("\n"));
+    assert_eq!(run(&["script", "-h"]).done(0), both.join("\n"));
 }
 
 /// In a folder with such a name, all its files are no question for help.
@@ -62,7 +72,7 @@ fn each_refusal_has_the_words_of_the_header() {
     let header = std::fs::read_to_string(format!("{ROOT}/include/burrbeech.h")).unwrap();
     let ran = run(&["refusals"]);
     let lines: Vec<&str> = ran.done(0).lines().collect();
-    assert_eq!(lines.len(), 12);
+    assert_eq!(lines.len(), 14);
     for (i, line) in lines.iter().enumerate() {
         let (number, words) = line.trim_start().split_once("  ").unwrap();
         assert_eq!(number, (i + 1).to_string());

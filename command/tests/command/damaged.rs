@@ -1,6 +1,6 @@
 //! Sheets damaged in every way of the refusal table, and muddled ones: the command's answers against the second reading's.
 use crate::json::{self, number_or_null, Value};
-use crate::running::{run, run_with, Folder};
+use crate::running::{run, run_with, shipped_script, Folder};
 use crate::shipped::status_of;
 use second::generate::{admitted_set, damaged_sheets, edge_set, muddled_sheet, random_sheet};
 use second::random::Random;
@@ -48,7 +48,23 @@ fn each_verb_gives_the_refusal() {
         assert_eq!(object.get("task"), &number_or_null(named_task(*refusal)));
         assert_eq!(object.find("reason").is_some(), refusal.number() == 11, "{bytes:02x?}");
         one_is_refused(&words[i + 2], *refusal);
+        if i % 8 == 0 {
+            no_run_is_played(&words[i + 2]);
+        }
     }
+}
+
+/// Whatever the script is, what is said is what `explain` says of the sheet.
+fn no_run_is_played(path: &str) {
+    let (explained, script) = (run(&["explain", path]), shipped_script("g-worst"));
+    for words in [["play", path, &script].as_slice(), &["script", "show", path, &script]] {
+        assert_eq!(run(words).done(2), explained.text());
+    }
+    for words in [["worst", path].as_slice(), &["draw", path], &["draw", path, &script]] {
+        assert_eq!(run(words).failed(2), explained.text());
+    }
+    let line = explained.text().lines().next().unwrap().to_string() + "\n";
+    assert_eq!(run(&["script", "compose", path, "/dev/null"]).failed(2), line);
 }
 
 fn one_is_refused(path: &str, refusal: Refusal) {

@@ -22,7 +22,7 @@ fn the_verbs_of_the_help_are_those_of_the_manual() {
     let manual = manual();
     let synopsis = manual.split(".SH SYNOPSIS").nth(1).unwrap().split(".SH ").next().unwrap();
     assert_eq!(usages(synopsis), help);
-    assert_eq!(help.len(), 7);
+    assert_eq!(help.len(), 12);
     let verbs = manual.split(".SH VERBS").nth(1).unwrap().split(".SH ").next().unwrap();
     for usage in help {
         let entry = usage.strip_prefix("burrbeech ").unwrap();
@@ -34,8 +34,9 @@ fn the_verbs_of_the_help_are_those_of_the_manual() {
 fn each_field_of_the_objects_is_documented() {
     let manual = manual();
     let json = manual.split(".SH JSON").nth(1).unwrap().split(".SH ").next().unwrap();
-    for verb in ["check", "explain", "show"] {
-        let help = run(&["help", verb]);
+    for verb in ["check", "explain", "show", "play", "worst", "script show"] {
+        let words: Vec<&str> = ["help"].into_iter().chain(verb.split(' ')).collect();
+        let help = run(&words);
         let quoted = help.done(0).split('"').skip(1).step_by(2);
         let fields: Vec<&str> = quoted.filter(|word| word.chars().all(|c| c.is_ascii_lowercase() || c == '_')).collect();
         assert!(!fields.is_empty(), "{verb}: no field is said");

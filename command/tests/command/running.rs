@@ -104,3 +104,7 @@ pub fn shipped() -> Vec<PathBuf> {
 pub fn shipped_one(name: &str) -> String {
     format!("{ROOT}/sheets/{name}.sheet")
 }
+
+pub fn shipped_script(name: &str) -> String {
+    format!("{ROOT}/scripts/{name}.script")
+}

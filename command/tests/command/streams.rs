@@ -104,12 +104,16 @@ fn no_more_is_read_than_decides() {
     assert_eq!(in_root("\"$0\" report README.md").done(2), "refused 1\n");
 }
 
-const WRITERS: [&str; 9] = [
+const WRITERS: [&str; 13] = [
     "check sheets/f.sheet",
     "report sheets/f.sheet",
     "explain sheets/f.sheet",
     "show sheets/f.sheet",
     "compose t",
+    "play sheets/g.sheet scripts/g-worst.script",
+    "script compose sheets/g.sheet scripts/g-worst.text",
+    "script show sheets/g.sheet scripts/g-worst.script",
+    "help script",
     "refusals",
     "--help",
     "help check",
@@ -164,9 +168,9 @@ fn broken_pipe() -> PipeWriter {
 /// Nobody reads the output any more when it is written: no panic, no message, status 3.
 #[test]
 fn a_broken_pipe() {
-    for verb in ["check", "report", "explain", "show"] {
+    for verb in ["check", "report", "explain", "show", "worst", "draw"] {
         let mut command = Command::new(COMMAND);
-        let output = command.args([verb, &shipped_one("f")]).stdout(broken_pipe()).stderr(Stdio::piped()).output().unwrap();
+        let output = command.args([verb, &shipped_one("g")]).stdout(broken_pipe()).stderr(Stdio::piped()).output().unwrap();
         assert_eq!((output.status.code(), output.stderr.as_slice()), (Some(3), b"".as_slice()), "{verb}");
     }
 }

@@ -1,7 +1,8 @@
-//! A sheet is not written to a terminal.
-use crate::running::{shipped_one, Folder, COMMAND};
+//! What a terminal gets: no sheet, script or picture, and the last ticks of a play.
+use crate::running::{shipped_one, shipped_script, Folder, COMMAND, ROOT};
 use std::ffi::{c_char, c_int, CStr};
 use std::fs::{File, OpenOptions};
+use std::io::Read;
 use std::os::fd::{FromRawFd, OwnedFd};
 use std::process::{Command, Stdio};
 
@@ -44,4 +45,35 @@ fn text_goes_to_a_terminal_and_a_sheet_does_not() {
         assert!(message.contains("a sheet is no text: give `-o FILE`"), "{message}");
     }
     assert_eq!(run_on_terminal(&["check", &shipped_one("f")]), (Some(0), String::new()));
+}
+
+#[test]
+fn a_script_and_a_picture_do_not() {
+    let (sheet, text) = (shipped_one("g"), format!("{ROOT}/scripts/g-worst.text"));
+    for (words, message) in [
+        (["worst", &sheet].as_slice(), "a script is no text: give `-o FILE`"),
+        (&["script", "compose", &sheet, &text], "a script is no text: give `-o FILE`"),
+        (&["draw", &sheet], "a picture is nothing to read: give `-o FILE`"),
+    ] {
+        let (status, said) = run_on_terminal(words);
+        assert_eq!(status, Some(3));
+        assert!(said.contains(message), "{said}");
+    }
+}
+
+/// A terminal gets the last ticks of a play unasked.
+#[test]
+fn a_play_shows_its_lanes_on_a_terminal() {
+    let (sheet, script) = (shipped_one("g"), shipped_script("g-worst"));
+    let lanes = |words: &[&str]| {
+        let (screen, end) = terminal();
+        let mut child = Command::new(COMMAND).args(words).stdin(Stdio::null()).stdout(end).spawn().expect("the command runs");
+        let status = child.wait().expect("the command ends").code();
+        // what a terminal holds of so few lines is read at once
+        let (mut screen, mut said) = (File::from(screen), vec![0; 8_192]);
+        let length = screen.read(&mut said).expect("the screen");
+        (status, String::from_utf8_lossy(&said[..length]).contains("task 0   ...x!"))
+    };
+    assert_eq!(lanes(&["play", &sheet, &script]), (Some(1), true));
+    assert_eq!(lanes(&["play", &sheet, &script, "--last", "0"]), (Some(1), false));
 }

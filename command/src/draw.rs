@@ -1,0 +1,99 @@
+//! `draw`: the timeline of a run as an SVG picture.
+use crate::course::{self, Course};
+use crate::delivery::{say, Made};
+use crate::input::{self, Pipes};
+use crate::names::Name;
+use crate::output::Output;
+use crate::picture::Picture;
+use crate::play::{end_words, missed_words, refused_text, status_of};
+use crate::status::{Status, Trouble};
+use crate::worst::{self, capital};
+use crate::{explain, words};
+
+/// What is asked of `draw`.
+#[derive(Clone, Debug, PartialEq, Eq)]
+pub struct DrawOptions {
+    pub sheet: Name,
+    /// Without one it is the worst run.
+    pub script: Option<Name>,
+    pub to: Option<Name>,
+    pub from_tick: Option<u32>,
+    pub to_tick: Option<u32>,
+}
+
+pub fn run(options: &DrawOptions, output: &mut Output) -> Result<Status, Trouble> {
+    let DrawOptions { sheet, script, to, .. } = options;
+    let mut pipes = Pipes::default();
+    let sheet_bytes = input::next_sheet(sheet, &mut pipes)?;
+    let (course, run_name) = match script {
+        Some(name) => {
+            let bytes = input::next_script(name, &mut pipes)?;
+            match course::of(&sheet_bytes, &bytes)? {
+                Ok(course) => (course, format!("the run of {}", cut(name.shown()))),
+                Err(refused) => {
+                    say(&refused_text(false, sheet, name, refused, &sheet_bytes, &bytes)?, to.as_ref(), output)?;
+                    return Ok(Status::Refused);
+                }
+            }
+        }
+        None => match worst::of(&sheet_bytes)? {
+            Ok(Some(worst)) => {
+                let name = worst.name();
+                (worst.course, name)
+            }
+            Ok(None) => {
+                say(&worst::holds(false, sheet, &sheet_bytes)?, to.as_ref(), output)?;
+                return Ok(Status::Done);
+            }
+            Err(refusal) => {
+                say(&explain::refused_sheet(false, sheet, refusal, &sheet_bytes)?, to.as_ref(), output)?;
+                return Ok(Status::Refused);
+            }
+        },
+    };
+    match course.play.tick {
+        0 => say(&format!("{}: {}; there is no tick, and nothing is drawn\n", sheet.shown(), end_words(&course)), to.as_ref(), output)?,
+        _ => deliver(options, &course, &run_name, output)?,
+    }
+    Ok(status_of(&course))
+}
+
+fn deliver(options: &DrawOptions, course: &Course, run_name: &str, output: &mut Output) -> Result<(), Trouble> {
+    let DrawOptions { sheet, script, to, .. } = options;
+    let (from, to_tick) = range(options, course.play.tick)?;
+    let end = end_words(course);
+    let verdict = words::verdict(course.findings.verdict, course.findings.set.tasks.len());
+    let shown = match (from, to_tick) == (0, course.play.tick) {
+        true => format!("all of it, ticks 0 to {}", to_tick - 1),
+        false => format!("ticks {from} to {} of 0 to {}", to_tick - 1, course.play.tick - 1),
+    };
+    let mut lines = vec![words::policy(course.findings.set.policy), format!("{}: {end}.", capital(run_name))];
+    lines.extend(missed_words(course));
+    lines.push(format!("Shown: {shown}."));
+    let picture = Picture { course, from, to: to_tick, title: format!("{}: {verdict}", cut(sheet.shown())), lines };
+    let inputs: Vec<(&Name, &str)> = [(sheet, "the sheet")].into_iter().chain(script.iter().map(|name| (name, "the script"))).collect();
+    let made = Made { not_for_a_terminal: "a picture is nothing to read", of: &inputs };
+    made.deliver(picture.svg().as_bytes(), to.as_ref(), output)?;
+    let place = to.as_ref().unwrap_or(&Name::StandardOutput).shown();
+    say(&format!("{place}: {run_name}, {shown}: {end}\n"), to.as_ref(), output)
+}
+
+/// The ticks that are drawn: those that were asked for, as far as there are any.
+fn range(options: &DrawOptions, end: u32) -> Result<(u32, u32), Trouble> {
+    let (from, to) = (options.from_tick.unwrap_or(0), options.to_tick.unwrap_or(end).min(end));
+    let usage = |words: String| Err(Trouble::Usage(words));
+    match (options.from_tick, options.to_tick) {
+        _ if from >= end => usage(format!("--from {from} is not before the end of the run, {end}: its ticks are 0 to {}", end - 1)),
+        (_, Some(to)) if from >= to => usage(format!("--from {from} is not before --to {to}")),
+        _ => Ok((from, to)),
+    }
+}
+
+/// The end of a name that is too long for a picture.
+fn cut(name: String) -> String {
+    const MOST: usize = 60;
+    match name.chars().count().checked_sub(MOST) {
+        None | Some(0) => name,
+        Some(surplus) => format!("...{}", name.chars().skip(surplus + 3).collect::<String>()),
+    }
+}

@@ -1,0 +1,101 @@
+//! `script show`: a run script as the text that `script compose` reads.
+use crate::explain;
+use crate::input::{self, Pipes};
+use crate::json::{array, Object};
+use crate::library;
+use crate::names::Name;
+use crate::output::Output;
+use crate::play_json;
+use crate::plays::{self, Refused, ScriptRefusal};
+use crate::script::{Entry, Script};
+use crate::script_faults::{self, ScriptFault};
+use crate::script_text::{self, Widths};
+use crate::set::Set;
+use crate::status::{Status, Trouble};
+use crate::table::MARK;
+use crate::words::{self, counted, entries, UNITS};
+
+pub fn run(json: bool, sheet: &Name, script: &Name, output: &mut Output) -> Result<Status, Trouble> {
+    let mut pipes = Pipes::default();
+    let inputs = input::next_sheet(sheet, &mut pipes).and_then(|bytes| Ok((bytes, input::next_script(script, &mut pipes)?)));
+    let (sheet_bytes, bytes) = match inputs {
+        Ok(inputs) => inputs,
+        Err(trouble) => return play_json::unread(json, sheet, script, trouble, output),
+    };
+    let set = match library::read(&sheet_bytes)? {
+        Ok(set) => set,
+        Err(refusal) => {
+            output.put(explain::refused_sheet(json, sheet, refusal, &sheet_bytes)?.as_bytes())?;
+            return Ok(Status::Refused);
+        }
+    };
+    match plays::play(&sheet_bytes, &bytes)? {
+        Ok(_) => {
+            script_faults::none(&bytes, &set)?;
+            let fields = Script::of(&bytes, set.tasks.len()).ok_or_else(unread_script)?;
+            if json { put_json(sheet, script, &fields, output) } else { put_text(&fields, output) }?;
+            Ok(Status::Done)
+        }
+        Err(Refused::Script(refusal)) => {
+            let fault = script_faults::of(refusal, &bytes, &set)?;
+            match json {
+                true => output.put(play_json::refused(sheet, script, refusal, &fault).as_bytes())?,
+                false => put_refused(refusal, &fault, &bytes, &set, output)?,
+            }
+            Ok(Status::Refused)
+        }
+        Err(Refused::Sheet(_)) => Err(Trouble::disagreement("reading and playing")),
+    }
+}
+
+fn unread_script() -> Trouble {
+    Trouble::Disagreement("the library plays a script that the command cannot read".to_string())
+}
+
+/// Row by row: a script may have millions.
+fn put_text(script: &Script, output: &mut Output) -> Result<(), Trouble> {
+    let widths = Widths::of(script.entries());
+    output.put(format!("{}{}\n", script_text::head(script), widths.columns()).as_bytes())?;
+    script.entries().try_for_each(|entry| output.put(format!("{}\n", widths.row(entry)).as_bytes()))
+}
+
+/// Entry by entry, as the text.
+fn put_json(sheet: &Name, name: &Name, script: &Script, output: &mut Output) -> Result<(), Trouble> {
+    let object = Object::new().text("file", &name.plain()).text("sheet", &sheet.plain()).truth("admitted", true);
+    let object = object.number("tasks", script.tasks() as u64).raw("first_frames", &array(script.first_frames()));
+    let object = object.number("entries", script.count() as u64).raw("list", "[").close();
+    output.put(object.trim_end_matches('}').as_bytes())?;
+    for (number, entry) in script.entries().enumerate() {
+        output.put(if number == 0 { b"" } else { b"," })?;
+        output.put(entry_object(entry).as_bytes())?;
+    }
+    output.put(b"]}\n")
+}
+
+fn entry_object(entry: Entry) -> String {
+    let Entry { task, tick, work, lock } = entry;
+    Object::new().number("task", task).number("tick", tick).number("work", work).number("lock", lock).close()
+}
+
+/// What can be read, with the fault marked. The first line is no comment, so that nobody composes it unawares.
+fn put_refused(refusal: ScriptRefusal, fault: &ScriptFault, bytes: &[u8], set: &Set, output: &mut Output) -> Result<(), Trouble> {
+    let tasks = set.tasks.len();
+    let mut text = format!("{}: {}\n", words::script_refused(refusal), words::short(refusal.number()));
+    text += &format!("# What can be read of the refused script; an arrow marks the fault. {UNITS}\n");
+    text += &format!("# length {}", counted(bytes.len() as u64, "byte"));
+    text += &if refusal == ScriptRefusal::Whole { format!("   # {MARK} {}\n", fault.words) } else { "\n".to_string() };
+    let Some(script) = Script::of(bytes, tasks) else { return output.put(text.as_bytes()) };
+    if refusal == ScriptRefusal::Whole {
+        text += "# The fields below are shown as they stand, and any of them may be spoiled.\n";
+    }
+    text += &format!("# check word {:04X}\n# count: {}\n", script.stated_word(), entries(script.count()));
+    let mark = |item: usize| if refusal.item() == Some(item) { format!("   # {MARK} {}", fault.words) } else { String::new() };
+    let frames_mark = (0..tasks).map(&mark).collect::<String>();
+    let widths = Widths::of(script.entries());
+    text += &format!("{}{frames_mark}\n{}\n", script_text::frames_line(&script.first_frames()), widths.columns());
+    output.put(text.as_bytes())?;
+    for (number, entry) in script.entries().enumerate() {
+        output.put(format!("{}{}\n", widths.row(entry), mark(tasks + number)).as_bytes())?;
+    }
+    Ok(())
+}
