@@ -18,7 +18,7 @@ use Rattle.analysis.specs.Runs.{RunOf}
 use Rattle.plays.specs.ScriptRun.{by-place, script-run}
 use Rattle.plays.specs.Broken.{BrokenAt}
 use Rattle.plays.specs.Play.{misser}
-use Rattle.plays.specs.Says.{FirstMiss, NoMiss, LastComplete}
+use Rattle.plays.specs.Says.{FirstMiss, NeverMisses, LastComplete}
 use Rattle.plays.proofs.Refused.{item-refused, broken-refused}
 use Rattle.plays.proofs.ScriptLegal.{script-legal}
 use Rattle.plays.proofs.PlaySays.{play-misses, play-done}
@@ -26,7 +26,7 @@ use Rattle.scripts.specs.Reading.{well-made}
 use Rattle.player.specs.Answers.{order-in, script-for, play-checks, ended, stops-at, play-end, played}
 use Rattle.player.specs.Inside.Course.{Ready}
 use Rattle.player.specs.declared.PlayRefusal.{PlayRefusal}
-use Rattle.player.specs.declared.PlayRefusal.the-variants.{Own, Script as ill-made, Item}
+use Rattle.player.specs.declared.PlayRefusal.the-variants.{Base, Malformed as ill-made, Item}
 use Rattle.player.specs.declared.Played.{Played}
 use Rattle.player.specs.declared.Played.the-variants.{Missed, Done, TurnedAway}
 use Rattle.player.proofs.Turned.{sheet-turns, form-turns, item-turns, Told, by-sheet, by-form, by-item, told}
@@ -96,10 +96,10 @@ module _ (sheet bytes : List ℕ) where
   told-of {why} e = subst (Told sheet bytes) (turned-exactly why .0 e) (told sheet bytes)
 
   -- by a refusal of the sheet's own
-  pub own-exactly : (why : Refusal) → (played sheet bytes ≡ TurnedAway (Own why)) ↔ (first-refusal (sheet-checks sheet) ≡ some why)
-  own-exactly why = (λ e. go why (told-of e), λ s. turned-exactly (Own why) .1 (sheet-turns sheet bytes s))
+  pub own-exactly : (why : Refusal) → (played sheet bytes ≡ TurnedAway (Base why)) ↔ (first-refusal (sheet-checks sheet) ≡ some why)
+  own-exactly why = (λ e. go why (told-of e), λ s. turned-exactly (Base why) .1 (sheet-turns sheet bytes s))
     where
-      go : (w : Refusal) → Told sheet bytes (some (Own w)) → first-refusal (sheet-checks sheet) ≡ some w
+      go : (w : Refusal) → Told sheet bytes (some (Base w)) → first-refusal (sheet-checks sheet) ≡ some w
       go _ (by-sheet w s) = s
 
   -- with 13, where the sheet is admitted and the bytes are not made as a script is
@@ -144,7 +144,7 @@ module _ (sheet bytes : List ℕ) where
     ends-missing t i = play-misses _ _ _ in-order (ready .admitted) legal (ready .ticks-in) (ready .deadlines-in) t i
 
     ends-done : (t : ℕ) → ((stops-at sheet bytes ≡ t) × (misser (order-in sheet) (tasks-of sheet) (script-for sheet bytes) t ≡ none))
-        ↔ (NoMiss (order-in sheet) (tasks-of sheet) (script-for sheet bytes) × LastComplete (order-in sheet) (tasks-of sheet) (script-for sheet bytes) t)
+        ↔ (NeverMisses (order-in sheet) (tasks-of sheet) (script-for sheet bytes) × LastComplete (order-in sheet) (tasks-of sheet) (script-for sheet bytes) t)
     unfolding stops-at
     ends-done t = play-done _ _ _ in-order (ready .admitted) legal (ready .ticks-in) (ready .deadlines-in) t
 
@@ -177,17 +177,17 @@ module _ (sheet bytes : List ℕ) where
 
   -- and that all jobs are done at moment t exactly where no job misses and the last is complete at t
   pub done-exactly : (t : ℕ) → (played sheet bytes ≡ Done t)
-      ↔ ((first-refusal (play-checks sheet bytes) ≡ none) × NoMiss (order-in sheet) (tasks-of sheet) (script-for sheet bytes) × LastComplete (order-in sheet) (tasks-of sheet) (script-for sheet bytes) t)
+      ↔ ((first-refusal (play-checks sheet bytes) ≡ none) × NeverMisses (order-in sheet) (tasks-of sheet) (script-for sheet bytes) × LastComplete (order-in sheet) (tasks-of sheet) (script-for sheet bytes) t)
   done-exactly t = (there, back)
     where
       there : played sheet bytes ≡ Done t
-          → (first-refusal (play-checks sheet bytes) ≡ none) × NoMiss (order-in sheet) (tasks-of sheet) (script-for sheet bytes) × LastComplete (order-in sheet) (tasks-of sheet) (script-for sheet bytes) t
+          → (first-refusal (play-checks sheet bytes) ≡ none) × NeverMisses (order-in sheet) (tasks-of sheet) (script-for sheet bytes) × LastComplete (order-in sheet) (tasks-of sheet) (script-for sheet bytes) t
       there e =
           let f = not-turned e (λ r. never-done) in
           let (at, m) = ended-done (stops-at sheet bytes) _ t (end-by-ended ∙ played-ends sheet bytes f ∙ e) in
           let (calm, last) = ends-done f t .0 (at, rw at at m) in
           (f, calm, last)
 
-      back : (first-refusal (play-checks sheet bytes) ≡ none) × NoMiss (order-in sheet) (tasks-of sheet) (script-for sheet bytes) × LastComplete (order-in sheet) (tasks-of sheet) (script-for sheet bytes) t
+      back : (first-refusal (play-checks sheet bytes) ≡ none) × NeverMisses (order-in sheet) (tasks-of sheet) (script-for sheet bytes) × LastComplete (order-in sheet) (tasks-of sheet) (script-for sheet bytes) t
           → played sheet bytes ≡ Done t
       back (f, calm, last) = let (at, m) = ends-done f t .1 (calm, last) in ends-so t none f at m ∙ ended-none t

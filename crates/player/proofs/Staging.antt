@@ -28,7 +28,7 @@ use Rattle.scripts.specs.Reading.{entry-count}
 use Rattle.scripts.specs.Judging.{judgement}
 use Rattle.scripts.specs.declared.Judgement.the-variants.{Sound, Malformed, Unsound}
 use Rattle.player.specs.Inside.Staging.{deadlines-in, cast-for, not-staged, staged-by, set-staged, answer-staged, sheet-staged, said}
-use Rattle.player.specs.declared.PlayRefusal.the-variants.{Own, Script, Item}
+use Rattle.player.specs.declared.PlayRefusal.the-variants.{Base, Malformed as ill-made, Item}
 use Rattle.player.specs.declared.Readiness.the-variants.{Playable}
 use Rattle.player.specs.declared.Staged.{Staged}
 use Rattle.player.specs.declared.course.Cast.{Cast}
@@ -75,7 +75,7 @@ cast-is set bytes o entries deadlines eo ee ed = rw (ed, ee, eo) refl
 -- ---- readiness
 
 module _ (set : TaskSet) (bytes : List ℕ) where
-  pub staged-malformed : judgement (map task-in (records-of set)) bytes ≡ Malformed → not-staged Script ≡ set-staged set bytes
+  pub staged-malformed : judgement (map task-in (records-of set)) bytes ≡ Malformed → not-staged ill-made ≡ set-staged set bytes
   unfolding set-staged staged-by
   staged-malformed e = rw e
 
@@ -97,7 +97,7 @@ module _ (sheet bytes : List ℕ) (j : Judged) (is : j ≡ sheet-judged sheet) w
   unfolding sheet-judged
   judged-is = refl
 
-  pub sheet-refused : (why : Refusal) → j .answer ≡ Refused why → not-staged (Own why) ≡ sheet-staged sheet bytes
+  pub sheet-refused : (why : Refusal) → j .answer ≡ Refused why → not-staged (Base why) ≡ sheet-staged sheet bytes
   unfolding sheet-staged answer-staged
   sheet-refused why e = rw (judged-tells j _ _ _ (is ∙ judged-is) e)
 

@@ -13,7 +13,7 @@ use Rattle.plays.specs.Items.{item-checks}
 use Rattle.scripts.specs.Reading.{well-made}
 use Rattle.player.specs.Answers.{script-for, play-checks}
 use Rattle.player.specs.declared.PlayRefusal.{PlayRefusal}
-use Rattle.player.specs.declared.PlayRefusal.the-variants.{Own, Script as ill-made, Item}
+use Rattle.player.specs.declared.PlayRefusal.the-variants.{Base, Malformed as ill-made, Item}
 
 module _ (sheet bytes : List ℕ) where
   abbrev form-check : Check PlayRefusal
@@ -23,14 +23,14 @@ module _ (sheet bytes : List ℕ) where
   items = item-checks (tasks-of sheet) (script-for sheet bytes)
 
   -- the sheet's own refusals come first
-  pub sheet-turns : {why : Refusal} → first-refusal (sheet-checks sheet) ≡ some why → first-refusal (play-checks sheet bytes) ≡ some (Own why)
+  pub sheet-turns : {why : Refusal} → first-refusal (sheet-checks sheet) ≡ some why → first-refusal (play-checks sheet bytes) ≡ some (Base why)
   unfolding play-checks
-  sheet-turns {why} s = some-first _ (form-check ∷ retold Item items) (Own why) (retold-some Own (sheet-checks sheet) why s)
+  sheet-turns {why} s = some-first _ (form-check ∷ retold Item items) (Base why) (retold-some Base (sheet-checks sheet) why s)
 
   module _ (admitted : first-refusal (sheet-checks sheet) ≡ none) where
     behind : first-refusal (play-checks sheet bytes) ≡ first-refusal (form-check ∷ retold Item items)
     unfolding play-checks
-    behind = none-first _ (form-check ∷ retold Item items) (retold-none Own (sheet-checks sheet) admitted)
+    behind = none-first _ (form-check ∷ retold Item items) (retold-none Base (sheet-checks sheet) admitted)
 
     -- then the form of the script
     pub form-turns : well-made (length (tasks-of sheet)) bytes ≡ false → first-refusal (play-checks sheet bytes) ≡ some ill-made
@@ -47,7 +47,7 @@ module _ (sheet bytes : List ℕ) where
 
   -- which check applies, and what those before it say
   pub data Told : Option PlayRefusal → Type 0 where
-    by-sheet : (why : Refusal) → first-refusal (sheet-checks sheet) ≡ some why → Told (some (Own why))
+    by-sheet : (why : Refusal) → first-refusal (sheet-checks sheet) ≡ some why → Told (some (Base why))
     by-form : first-refusal (sheet-checks sheet) ≡ none → well-made (length (tasks-of sheet)) bytes ≡ false → Told (some ill-made)
     by-item : (j : ℕ) → first-refusal (sheet-checks sheet) ≡ none → well-made (length (tasks-of sheet)) bytes ≡ true
         → first-refusal (item-checks (tasks-of sheet) (script-for sheet bytes)) ≡ some j → Told (some (Item j))

@@ -46,7 +46,7 @@ use Rattle.player.specs.Answers.{order-in, script-for, play-checks, ende
 use Rattle.player.specs.Inside.Course.{Ready, Stage, the-end, shown-on}
 use Rattle.player.specs.Inside.Staging.{deadlines-in, cast-for, not-staged, staged-by, set-staged, answer-staged, sheet-staged, said}
 use Rattle.player.specs.declared.PlayRefusal.{PlayRefusal}
-use Rattle.player.specs.declared.PlayRefusal.the-variants.{Own, Script as ill-made, Item}
+use Rattle.player.specs.declared.PlayRefusal.the-variants.{Base, Malformed as ill-made, Item}
 use Rattle.player.specs.declared.Readiness.the-variants.{Playable, Unplayable}
 use Rattle.player.specs.declared.Played.the-variants.{TurnedAway}
 use Rattle.player.specs.declared.Staged.{Staged}
@@ -117,7 +117,7 @@ module _ (sheet bytes : List ℕ) where
   unfolding sheet-staged answer-staged set-staged
   staged-set a e = rw (a, its-tasks, e)
 
-  refused-staged : {why : Refusal} → decided (sheet-checks sheet) ≡ Refused why → sheet-staged sheet bytes ≡ not-staged (Own why)
+  refused-staged : {why : Refusal} → decided (sheet-checks sheet) ≡ Refused why → sheet-staged sheet bytes ≡ not-staged (Base why)
   unfolding sheet-staged answer-staged
   refused-staged a = rw a
 
@@ -134,7 +134,7 @@ module _ (sheet bytes : List ℕ) where
   way = go (first-refusal (play-checks sheet bytes)) refl (told sheet bytes)
     where
       go : (o : Option PlayRefusal) → first-refusal (play-checks sheet bytes) ≡ o → Told sheet bytes o → Way
-      go _ e (by-sheet why s) = turned (Own why) e (refused-staged (rw s))
+      go _ e (by-sheet why s) = turned (Base why) e (refused-staged (rw s))
       go _ e (by-form s w) = turned ill-made e (staged-set (rw s) (judged-ill w))
       go _ e (by-item j s w f) = turned (Item j) e (staged-set (rw s) (judged-well w f))
       go _ e (by-nothing s w f) = plays e (is-playing e) (staged-set (rw s) (judged-well w f))
@@ -292,29 +292,29 @@ module _ (sheet bytes : List ℕ) where
   module _ (room : List ℕ) where
     pub trace-turned : {r : PlayRefusal} → first-refusal (play-checks sheet bytes) ≡ some r → (TurnedAway r ≡ traced sheet bytes room) × (room ≡ trace-left sheet bytes room)
     unfolding traced trace-left tracing
-    trace-turned {r} e = turned-tells (Own Room) TurnedAway (tracing sheet bytes) room (by-checks (Own Room) TurnedAway (tracing sheet bytes) room r e)
+    trace-turned {r} e = turned-tells (Base Room) TurnedAway (tracing sheet bytes) room (by-checks (Base Room) TurnedAway (tracing sheet bytes) room r e)
 
     module _ {cast : Cast} (p : Plays cast) where
       ticks-many : length (tracing sheet bytes .writes) ≡ the-end (p .stage) .tick
       ticks-many = sym (ap length (p .traces)) ∙ shown-length _ _ _ 0 (the-end (p .stage) .tick)
 
-      pub trace-short : length room < the-end (p .stage) .tick → (TurnedAway (Own Room) ≡ traced sheet bytes room) × (room ≡ trace-left sheet bytes room)
+      pub trace-short : length room < the-end (p .stage) .tick → (TurnedAway (Base Room) ≡ traced sheet bytes room) × (room ≡ trace-left sheet bytes room)
       unfolding traced trace-left tracing
       trace-short h =
-          turned-tells (Own Room) TurnedAway (tracing sheet bytes) room (by-room (Own Room) TurnedAway (tracing sheet bytes) room (p .no-refusal) (omega (arith, ticks-many)))
+          turned-tells (Base Room) TurnedAway (tracing sheet bytes) room (by-room (Base Room) TurnedAway (tracing sheet bytes) room (p .no-refusal) (omega (arith, ticks-many)))
 
       pub trace-done : the-end (p .stage) .tick ≤ length room
           → (play-end sheet bytes ≡ traced sheet bytes room) × (laid (shown-on (p .stage) (the-end (p .stage) .tick)) room ≡ trace-left sheet bytes room)
       unfolding traced trace-left tracing
       trace-done h =
-          let d = done-tells (Own Room) TurnedAway (tracing sheet bytes) room (done (Own Room) TurnedAway (tracing sheet bytes) room (p .no-refusal) (omega (arith, ticks-many))) in
+          let d = done-tells (Base Room) TurnedAway (tracing sheet bytes) room (done (Base Room) TurnedAway (tracing sheet bytes) room (p .no-refusal) (omega (arith, ticks-many))) in
           (d .0, ap (λ l. laid l room) (p .traces) ∙ d .1)
 
     -- a trace is turned away as a play is, or for want of room for a byte of each tick, or it answers as the play does; there is no other way
     pub data Traced : Type 0 where
       not-played : (r : PlayRefusal) → first-refusal (play-checks sheet bytes) ≡ some r → traced sheet bytes room ≡ TurnedAway r → trace-left sheet bytes room ≡ room → Traced
       no-room : first-refusal (play-checks sheet bytes) ≡ none → length room < stops-at sheet bytes
-          → traced sheet bytes room ≡ TurnedAway (Own Room) → trace-left sheet bytes room ≡ room → Traced
+          → traced sheet bytes room ≡ TurnedAway (Base Room) → trace-left sheet bytes room ≡ room → Traced
       is-traced : first-refusal (play-checks sheet bytes) ≡ none → stops-at sheet bytes ≤ length room → traced sheet bytes room ≡ play-end sheet bytes
           → trace-left sheet bytes room ≡ laid (shown-from (order-in sheet) (tasks-of sheet) (script-for sheet bytes) 0 (stops-at sheet bytes)) room → Traced
 
@@ -326,9 +326,9 @@ module _ (sheet bytes : List ℕ) where
         long = shown-length _ _ _ 0 (stops-at sheet bytes)
 
         by-length : first-refusal (play-checks sheet bytes) ≡ none → Dec (length room < stops-at sheet bytes) → Traced
-        by-length e (yes h) = let t = by-room (Own Room) TurnedAway (tracing sheet bytes) room e (omega (arith, long)) in no-room e h (t .answer) (t .unchanged)
-        by-length e (no h) = let d = done (Own Room) TurnedAway (tracing sheet bytes) room e (omega (arith, long)) in is-traced e (omega arith) (d .answer) (d .holds)
+        by-length e (yes h) = let t = by-room (Base Room) TurnedAway (tracing sheet bytes) room e (omega (arith, long)) in no-room e h (t .answer) (t .unchanged)
+        by-length e (no h) = let d = done (Base Room) TurnedAway (tracing sheet bytes) room e (omega (arith, long)) in is-traced e (omega arith) (d .answer) (d .holds)
 
         go : (o : Option PlayRefusal) → first-refusal (play-checks sheet bytes) ≡ o → Traced
         go none e = by-length e (decLt (length room) (stops-at sheet bytes))
-        go (some r) e = let t = by-checks (Own Room) TurnedAway (tracing sheet bytes) room r e in not-played r e (t .answer) (t .unchanged)
+        go (some r) e = let t = by-checks (Base Room) TurnedAway (tracing sheet bytes) room r e in not-played r e (t .answer) (t .unchanged)

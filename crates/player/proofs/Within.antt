@@ -26,7 +26,7 @@ use Rattle.plays.proofs.PlayEnds.{end-is}
 use Rattle.scripts.proofs.RoundTrip.{numbers-fit}
 use Rattle.player.specs.Answers.{order-in, script-for, play-checks, ended, stops-at, play-end, played, traced}
 use Rattle.player.specs.declared.PlayRefusal.{PlayRefusal}
-use Rattle.player.specs.declared.PlayRefusal.the-variants.{Own, Script as ill-made, Item}
+use Rattle.player.specs.declared.PlayRefusal.the-variants.{Base, Malformed as ill-made, Item}
 use Rattle.player.specs.declared.Played.{Played}
 use Rattle.player.specs.declared.Played.the-variants.{Missed, Done, TurnedAway}
 use Rattle.player.proofs.Turned.{Told, by-sheet, by-form, by-item, told}
@@ -41,7 +41,7 @@ item-in order tasks sc j (broken-entry xs e ys split at frames before bad) =
 module _ (sheet bytes : List ℕ) where
   -- the numbers of a refusal: those of the sheet's own are the sheet's, 12 is for want of room
   pub data RefusalWithin : PlayRefusal → Type 0 where
-    own-within : (why : Refusal) → (first-refusal (sheet-checks sheet) ≡ some why) ⊎ (why ≡ Room) → RefusalWithin (Own why)
+    own-within : (why : Refusal) → (first-refusal (sheet-checks sheet) ≡ some why) ⊎ (why ≡ Room) → RefusalWithin (Base why)
     script-within : RefusalWithin ill-made
     item-within : (j : ℕ) → j < 2 ^ 25 → RefusalWithin (Item j)
 
@@ -96,5 +96,5 @@ module _ (sheet bytes : List ℕ) where
     where
       go : Traced sheet bytes room → Within (traced sheet bytes room)
       go (not-played r e a _) = rw a (turned-within r (refusal-within e))
-      go (no-room e h a _) = rw a (turned-within (Own Room) (own-within Room (inr refl)))
+      go (no-room e h a _) = rw a (turned-within (Base Room) (own-within Room (inr refl)))
       go (is-traced e h a _) = rw a (end-within (is-playing sheet bytes e))

@@ -14,7 +14,7 @@ use Rattle.plays.specs.Items.{item-checks}
 use Rattle.plays.specs.Play.{misser, end-of-play, shown-from}
 use Rattle.scripts.specs.Reading.{script-in, well-made}
 use Rattle.player.specs.declared.PlayRefusal.{PlayRefusal}
-use Rattle.player.specs.declared.PlayRefusal.the-variants.{Own, Script as ill-made, Item}
+use Rattle.player.specs.declared.PlayRefusal.the-variants.{Base, Malformed as ill-made, Item}
 use Rattle.player.specs.declared.Played.{Played}
 use Rattle.player.specs.declared.Played.the-variants.{Missed, Done, TurnedAway}
 
@@ -28,7 +28,7 @@ script-for sheet bytes = script-in (length (tasks-of sheet)) bytes
 -- the order for a play: all of the sheet's own refusals, 13, then 14 item by item
 unfoldable pub play-checks : List ℕ → List ℕ → List (Check PlayRefusal)
 play-checks sheet bytes =
-    retold Own (sheet-checks sheet)
+    retold Base (sheet-checks sheet)
     ++ (not (well-made (length (tasks-of sheet)) bytes) ⇒ ill-made)
     ∷ retold Item (item-checks (tasks-of sheet) (script-for sheet bytes))
 
@@ -59,7 +59,7 @@ module _ (sheet bytes : List ℕ) where
       }
 
   unfoldable pub traced : List ℕ → Played
-  traced room = answered (Own Room) TurnedAway tracing room
+  traced room = answered (Base Room) TurnedAway tracing room
 
   unfoldable pub trace-left : List ℕ → List ℕ
-  trace-left room = left-after (Own Room) tracing room
+  trace-left room = left-after (Base Room) tracing room

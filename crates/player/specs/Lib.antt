@@ -1,4 +1,5 @@
 -- The player: what it answers, its state and what it does with it, and how that shows the run. Inside: the words of private contracts.
+pub mod Refusals
 pub mod Answers
 pub mod State
 pub mod Shows

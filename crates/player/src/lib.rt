@@ -1,5 +1,6 @@
 // The player: the play of a run script, tick by tick, and what each tick shows.
 ghost use mathlib.Core.Path.{_≡_};
+ghost use Rattle.player.specs.Refusals.{play-number-of};
 ghost use Rattle.player.specs.Answers.{played, traced, trace-left};
 ghost use Rattle.player.specs.Inside.Staging.{deadlines-in, cast-for, not-staged, set-staged, sheet-staged, said};
 
@@ -15,11 +16,23 @@ use sheet::Sheet;
 use sheet::Task;
 use sheet::TaskSet;
 
-// Why there is no play: a refusal of the sheet's, or for want of room; 13, the script is not made as a script is; 14, one of its items.
+// Why there is no play: one of 1 to 12, the sheet's or for want of room; 13, the script is not made as a script is; 14, one of its items.
 pub enum PlayRefusal {
-    Own(Refusal),
-    Script,
+    Base(Refusal),
+    Malformed,
     Item(u32),
+}
+
+impl PlayRefusal {
+    pub fn number(self) -> u32
+        ensures { λ r. ⌜ r ≡ play-number-of self ⌝ }
+    {
+        match self {
+            PlayRefusal::Base(why) => why.number(),
+            PlayRefusal::Malformed => 13,
+            PlayRefusal::Item(_) => 14,
+        }
+    }
 }
 
 // How a play ends: the moment and the task that misses, or the moment at which all jobs are done; or the one refusal.
@@ -88,7 +101,7 @@ fn stage_set(set: TaskSet, script: &[u8]) -> Staged
     ensures { λ r. ⌜ r ≡ set-staged set (now (script .entry)) ⌝ }
 {
     match scripts::judge(set, script) {
-        Judgement::Malformed => not_staged(PlayRefusal::Script),
+        Judgement::Malformed => not_staged(PlayRefusal::Malformed),
         Judgement::Unsound(j) => not_staged(PlayRefusal::Item(j)),
         Judgement::Sound => Staged {
             readiness: Readiness::Playable,
@@ -104,7 +117,7 @@ fn stage(sheet: &[u8], script: &[u8]) -> Staged
     let judged = reader::admit_sheet(sheet);
     let answer = judged.answer;
     match answer {
-        Answer::Refused(why) => not_staged(PlayRefusal::Own(why)),
+        Answer::Refused(why) => not_staged(PlayRefusal::Base(why)),
         Answer::Admitted => stage_set(judged.set, script),
     }
 }
@@ -143,7 +156,7 @@ pub fn trace(sheet: &[u8], script: &[u8], ticks: &mut [u8]) -> Played
     let cast = staged.cast;
     let end = course::play_on(script, cast);
     if ticks.len() < end.tick as usize {
-        return Played::TurnedAway(PlayRefusal::Own(Refusal::Room));
+        return Played::TurnedAway(PlayRefusal::Base(Refusal::Room));
     }
     course::trace_on(script, cast, end.tick, ticks);
     said(end)

@@ -19,7 +19,7 @@ use Rattle.analysis.specs.Times.{number-at, place-of}
 use Rattle.analysis.proofs.Numbering.{place-back}
 use Rattle.plays.specs.Script.{Script}
 use Rattle.plays.specs.ScriptRun.{by-place, released-at, script-state, script-run}
-use Rattle.plays.specs.Says.{AllReleased, Later, MissIn, MissAt, FirstMiss, NoMiss, WorkLeft, LastComplete}
+use Rattle.plays.specs.Says.{AllReleased, Later, MissIn, MissAt, FirstMiss, NeverMisses, WorkLeft, LastComplete}
 use Rattle.plays.specs.Play.{misses-now, script-seen, task-misses, misser, all-done, over, end-of-play}
 use Rattle.plays.proofs.States.{run-seen}
 use Rattle.plays.proofs.ScriptLanes.{place-found, number-found, by-place-admitted, seen-job, job-stays, deadline-positive, script-next-in, known, known-seen}
@@ -203,10 +203,10 @@ module _ (order : List ℕ) (tasks : List Task) (sc : Script) where
                 )
 
         -- a play ends without a miss at moment t where no job of the script's run misses and the last job is complete at t
-        pub play-done : (t : ℕ) → ((end-of-play order tasks sc ≡ t) × (misser order tasks sc t ≡ none)) ↔ (NoMiss order tasks sc × LastComplete order tasks sc t)
+        pub play-done : (t : ℕ) → ((end-of-play order tasks sc ≡ t) × (misser order tasks sc t ≡ none)) ↔ (NeverMisses order tasks sc × LastComplete order tasks sc t)
         play-done t = (there, back)
           where
-            there : (end-of-play order tasks sc ≡ t) × (misser order tasks sc t ≡ none) → NoMiss order tasks sc × LastComplete order tasks sc t
+            there : (end-of-play order tasks sc ≡ t) × (misser order tasks sc t ≡ none) → NeverMisses order tasks sc × LastComplete order tasks sc t
             there (e, calm) = (no-miss, last)
               where
                 over-then : over order tasks sc t ≡ true
@@ -218,7 +218,7 @@ module _ (order : List ℕ) (tasks : List Task) (sc : Script) where
                 calm-to : Calm order tasks sc t
                 calm-to = rw e at (calm-to-end order tasks sc permutes admitted legal ticks-in deadlines-in (rw e calm))
 
-                no-miss : NoMiss order tasks sc
+                no-miss : NeverMisses order tasks sc
                 no-miss n i r k h m = go (r + deadline-of (task-at (by-place order tasks) (place-of order i)) k) refl
                   where
                     go : (u : ℕ) → r + deadline-of (task-at (by-place order tasks) (place-of order i)) k ≡ u → ⊥
@@ -241,7 +241,7 @@ module _ (order : List ℕ) (tasks : List Task) (sc : Script) where
                           undone-shows u .0 (undone-is order tasks sc u .0 (before-end order tasks sc permutes admitted legal ticks-in deadlines-in u (omega arith) .1));
                     }
 
-            back : NoMiss order tasks sc × LastComplete order tasks sc t → (end-of-play order tasks sc ≡ t) × (misser order tasks sc t ≡ none)
+            back : NeverMisses order tasks sc × LastComplete order tasks sc t → (end-of-play order tasks sc ≡ t) × (misser order tasks sc t ≡ none)
             back (no-miss, last) = (
               end-unique order tasks sc permutes admitted legal ticks-in deadlines-in t
                   (over-by-done order tasks sc t (done-is order tasks sc t .1 (done-shows t .1 (last .all-released, last .all-complete))))

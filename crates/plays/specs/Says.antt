@@ -45,8 +45,8 @@ module _ (order : List ℕ) (tasks : List Task) (sc : Script) where
     pub lowest-number : (j : ℕ) → j < i → MissAt t j → ⊥
 
   -- no job misses, in the run of any length
-  abbrev pub NoMiss : Type 0
-  NoMiss = (n i r k : ℕ) → i < length tasks → Misses (by-place order tasks) (script-run order tasks sc n) (place-of order i) r k → ⊥
+  abbrev pub NeverMisses : Type 0
+  NeverMisses = (n i r k : ℕ) → i < length tasks → Misses (by-place order tasks) (script-run order tasks sc n) (place-of order i) r k → ⊥
 
   -- some job has work left at moment u, with the releases of tick u seen
   abbrev pub WorkLeft : ℕ → Type 0

@@ -12,14 +12,14 @@ use Rattle.bits.specs.Packed.{digits, bytes-of}
 use Rattle.bits.proofs.Laws.{length-bytes}
 use Rattle.lent.specs.Lent.{laid}
 use Rattle.sheet.specs.Constants.{most-frames}
-use Rattle.workbench.specs.Entry.{four-bytes}
+use Rattle.workbench.specs.Entry.{as-bytes}
 use Rattle.workbench.proofs.Four.{four-of, length-four}
 use Rattle.signed.specs.Claims.{Kept, in-numbers, in-bytes, size, time-in, Surplus}
 
 -- times as they stand in memory
 abbrev pub stored : Kept → List ℕ → List ℕ
 stored in-numbers times = times
-stored in-bytes times = four-bytes times
+stored in-bytes times = as-bytes times
 
 pub length-stored : (kept : Kept) (times : List ℕ) → length (stored kept times) ≡ size kept * length times
 length-stored in-numbers times = omega arith
@@ -27,21 +27,21 @@ length-stored in-bytes times = length-four times
 
 -- ---- four bytes to a time
 
-four-at : (ts rest : List ℕ) (j b : ℕ) → j < length ts → b < 4 → getD (four-bytes ts ++ rest) (4 * j + b) 0 ≡ getD (bytes-of 4 (digits 32 (getD ts j 0))) b 0
-unfolding four-bytes
+four-at : (ts rest : List ℕ) (j b : ℕ) → j < length ts → b < 4 → getD (as-bytes ts ++ rest) (4 * j + b) 0 ≡ getD (bytes-of 4 (digits 32 (getD ts j 0))) b 0
+unfolding as-bytes
 four-at [] rest j b h l = let z : ⊥ = omega arith in absurd z
 four-at (t ∷ ts) rest zero b h l =
     let first : List ℕ = bytes-of 4 (digits 32 t) in
     let four : length first ≡ 4 = length-bytes 4 (digits 32 t) in
     let here : 4 * zero + b ≡ b = omega arith in
-    ap₂ (λ (m : List ℕ) (i : ℕ). getD m i 0) (append-assoc first (four-bytes ts) rest) here
-    ∙ List·getD-append first (four-bytes ts ++ rest) 0 b (omega arith)
+    ap₂ (λ (m : List ℕ) (i : ℕ). getD m i 0) (append-assoc first (as-bytes ts) rest) here
+    ∙ List·getD-append first (as-bytes ts ++ rest) 0 b (omega arith)
 four-at (t ∷ ts) rest (suc j) b h l =
     let first : List ℕ = bytes-of 4 (digits 32 t) in
     let four : length first ≡ 4 = length-bytes 4 (digits 32 t) in
     let behind : 4 * suc j + b ≡ length first + (4 * j + b) = omega arith in
-    ap₂ (λ (m : List ℕ) (i : ℕ). getD m i 0) (append-assoc first (four-bytes ts) rest) behind
-    ∙ getD-append-add first (four-bytes ts ++ rest) (4 * j + b) 0
+    ap₂ (λ (m : List ℕ) (i : ℕ). getD m i 0) (append-assoc first (as-bytes ts) rest) behind
+    ∙ getD-append-add first (as-bytes ts ++ rest) (4 * j + b) 0
     ∙ four-at ts rest j b (omega arith) l
 
 four-add : (t a b c r₀ r₁ r₂ r₃ : ℕ) → a * 256 + r₀ ≡ t → b * 256 + r₁ ≡ a → c * 256 + r₂ ≡ b → r₃ ≡ c
@@ -58,14 +58,14 @@ four-sum t h =
     (mod-eq-of-lt small)
 
 module _ (ts rest : List ℕ) (j : ℕ) (h : j < length ts) where
-  byte-at : (b : ℕ) → b < 4 → getD (four-bytes ts ++ rest) (4 * j + b) 0 ≡ getD (getD ts j 0 / 2 ^ 24 % 256 ∷ getD ts j 0 / 2 ^ 16 % 256 ∷ getD ts j 0 / 2 ^ 8 % 256 ∷ getD ts j 0 % 256 ∷ []) b 0
+  byte-at : (b : ℕ) → b < 4 → getD (as-bytes ts ++ rest) (4 * j + b) 0 ≡ getD (getD ts j 0 / 2 ^ 24 % 256 ∷ getD ts j 0 / 2 ^ 16 % 256 ∷ getD ts j 0 / 2 ^ 8 % 256 ∷ getD ts j 0 % 256 ∷ []) b 0
   byte-at b l = four-at ts rest j b h l ∙ ap (λ (m : List ℕ). getD m b 0) (four-of (getD ts j 0))
 
-  four-read : getD ts j 0 < 2 ^ 32 → time-in in-bytes (four-bytes ts ++ rest) j ≡ getD ts j 0
+  four-read : getD ts j 0 < 2 ^ 32 → time-in in-bytes (as-bytes ts ++ rest) j ≡ getD ts j 0
   unfolding time-in
   four-read small =
       let first : 4 * j ≡ 4 * j + 0 = omega arith in
-      rw (ap (λ (i : ℕ). getD (four-bytes ts ++ rest) i 0) first ∙ byte-at 0 (lit< tt), byte-at 1 (lit< tt), byte-at 2 (lit< tt), byte-at 3 (lit< tt)) (four-sum (getD ts j 0) small)
+      rw (ap (λ (i : ℕ). getD (as-bytes ts ++ rest) i 0) first ∙ byte-at 0 (lit< tt), byte-at 1 (lit< tt), byte-at 2 (lit< tt), byte-at 3 (lit< tt)) (four-sum (getD ts j 0) small)
 
 -- ---- laid over memory
 

@@ -30,7 +30,7 @@ use Rattle.lists.specs.declared.ListRead.{ListRead}
 use Rattle.lists.specs.declared.ListRead.the-variants.{Set}
 use Rattle.lists.specs.declared.ListRead.the-variants.{TurnedAway as not-read}
 use Rattle.player.specs.declared.PlayRefusal.{PlayRefusal}
-use Rattle.player.specs.declared.PlayRefusal.the-variants.{Own}
+use Rattle.player.specs.declared.PlayRefusal.the-variants.{Base}
 use Rattle.player.specs.declared.Played.{Played}
 use Rattle.player.specs.declared.Played.the-variants.{TurnedAway as not-played}
 use Rattle.player.proofs.Within.{RefusalWithin, own-within, script-within, item-within, Within, missed-within, done-within, turned-within}
@@ -217,11 +217,11 @@ module _ (t i : ℕ) (h : t < 4294967296) (l : i < 256) where
   task-part : (t + 4294967296 * i) / 4294967296 % 256 ≡ i
   task-part = let above : (t + 4294967296 * i) / 4294967296 ≡ i = omega arith in ap (λ (x : ℕ). x % 256) above ∙ mod-eq-of-lt l
 
-own-back : (r : Refusal) → NamesSmall r → play-refused-by (refused-number r) ≡ Own r
+own-back : (r : Refusal) → NamesSmall r → play-refused-by (refused-number r) ≡ Base r
 unfolding play-refused-by
 own-back r h =
     let range = refusal-range r in
-    rw (ne-eqb (refused-number r % 256) 13 (omega arith), ne-eqb (refused-number r % 256) 14 (omega arith)) (ap Own (refused-back r h))
+    rw (ne-eqb (refused-number r % 256) 13 (omega arith), ne-eqb (refused-number r % 256) 14 (omega arith)) (ap Base (refused-back r h))
 
 module _ (sheet script : List ℕ) where
   own-small : (why : Refusal) → (first-refusal (sheet-checks sheet) ≡ some why) ⊎ (why ≡ Room) → NamesSmall why

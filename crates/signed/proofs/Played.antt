@@ -22,7 +22,7 @@ use Rattle.sheet.proofs.Refused.{Covers, sheet-each}
 use Rattle.plays.specs.Play.{misser, shown, shown-from}
 use Rattle.player.specs.Answers.{order-in, script-for, play-checks, ended, stops-at, play-end, played, traced, trace-left}
 use Rattle.player.specs.declared.PlayRefusal.{PlayRefusal}
-use Rattle.player.specs.declared.PlayRefusal.the-variants.{Own}
+use Rattle.player.specs.declared.PlayRefusal.the-variants.{Base}
 use Rattle.player.specs.declared.Played.the-variants.{TurnedAway}
 use Rattle.player.proofs.Playing.{shown-length, shown-at}
 use Rattle.player.proofs.Ways.{played-turned, played-ends, Traced, not-played, no-room, is-traced, trace-way}
@@ -97,18 +97,18 @@ module _ (sheet script : List ℕ) where
 
   module _ (before : List ℕ) where
     -- 12 for want of room, and only so
-    room-exactly : (traced sheet script before ≡ TurnedAway (Own Room)) ↔ (length before < ticks-said (played sheet script))
+    room-exactly : (traced sheet script before ≡ TurnedAway (Base Room)) ↔ (length before < ticks-said (played sheet script))
     room-exactly = (λ e. there (trace-way sheet script before) e, λ h. back (trace-way sheet script before) h)
       where
-        there : Traced sheet script before → traced sheet script before ≡ TurnedAway (Own Room) → length before < ticks-said (played sheet script)
+        there : Traced sheet script before → traced sheet script before ≡ TurnedAway (Base Room) → length before < ticks-said (played sheet script)
         there (not-played r f a _) e =
-            let same : r ≡ Own Room = one-refusal (sym a ∙ e) in
-            absurd (not-for-room sheet (own-exactly sheet script Room .0 (turned-exactly sheet script (Own Room) .1 (f ∙ ap some same))))
+            let same : r ≡ Base Room = one-refusal (sym a ∙ e) in
+            absurd (not-for-room sheet (own-exactly sheet script Room .0 (turned-exactly sheet script (Base Room) .1 (f ∙ ap some same))))
         there (no-room f h a _) e = rw (ticks-played f) h
         there (is-traced f h a _) e =
-            absurd (Option·none-ne-some (Own Room) (sym f ∙ turned-exactly sheet script (Own Room) .0 (sym (played-ends sheet script f) ∙ sym a ∙ e)))
+            absurd (Option·none-ne-some (Base Room) (sym f ∙ turned-exactly sheet script (Base Room) .0 (sym (played-ends sheet script f) ∙ sym a ∙ e)))
 
-        back : Traced sheet script before → length before < ticks-said (played sheet script) → traced sheet script before ≡ TurnedAway (Own Room)
+        back : Traced sheet script before → length before < ticks-said (played sheet script) → traced sheet script before ≡ TurnedAway (Base Room)
         back (not-played r f a _) h = let z : ⊥ = omega (arith, ticks-turned f) in absurd z
         back (no-room f l a _) h = a
         back (is-traced f l a _) h = let z : ⊥ = omega (arith, ticks-played f) in absurd z

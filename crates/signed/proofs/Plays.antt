@@ -12,7 +12,7 @@ use Rattle.scripts.specs.Reading.{well-made}
 use Rattle.scripts.proofs.Changes.{damaged-script}
 use Rattle.player.specs.Answers.{played}
 use Rattle.player.specs.declared.PlayRefusal.{PlayRefusal}
-use Rattle.player.specs.declared.PlayRefusal.the-variants.{Own, Script}
+use Rattle.player.specs.declared.PlayRefusal.the-variants.{Base, Malformed}
 use Rattle.player.specs.declared.Played.{Played}
 use Rattle.player.specs.declared.Played.the-variants.{TurnedAway}
 use Rattle.player.proofs.Within.{played-within, traced-within}
@@ -91,7 +91,7 @@ module _ (sheet script : List ℕ) (why : PlayRefusal) (turned : played sheet sc
 -- A script that is well made for an admitted sheet, changed so, gets 13.
 module _ (sheet script changed : List ℕ) (admitted : reading sheet .answer ≡ Admitted) (made : well-made (length (tasks-of sheet)) script ≡ true)
     (damaged : Damaged script changed) where
-  script-damaged : played sheet changed ≡ TurnedAway Script
+  script-damaged : played sheet changed ≡ TurnedAway Malformed
   script-damaged =
       played-signed sheet changed .ill-made .1 (
         admitted,
@@ -99,32 +99,32 @@ module _ (sheet script changed : List ℕ) (admitted : reading sheet .answer ≡
             (damaged .elsewhere-same) (damaged .changed),
       )
 
-  pub play-script-damaged : (answer : Played) → Play sheet changed answer → answer ≡ TurnedAway Script
-  play-script-damaged = play-turned sheet changed Script script-damaged
+  pub play-script-damaged : (answer : Played) → Play sheet changed answer → answer ≡ TurnedAway Malformed
+  play-script-damaged = play-turned sheet changed Malformed script-damaged
 
-  pub trace-script-damaged : (before after : List ℕ) (answer : Played) → Trace sheet changed before answer after → (answer ≡ TurnedAway Script) × (after ≡ before)
-  trace-script-damaged = trace-turned-so sheet changed Script script-damaged
+  pub trace-script-damaged : (before after : List ℕ) (answer : Played) → Trace sheet changed before answer after → (answer ≡ TurnedAway Malformed) × (after ≡ before)
+  trace-script-damaged = trace-turned-so sheet changed Malformed script-damaged
 
   pub play-c-script-damaged : (number : ℕ) → PlayC sheet changed number → number ≡ 13
-  play-c-script-damaged = play-c-turned sheet changed Script script-damaged
+  play-c-script-damaged = play-c-turned sheet changed Malformed script-damaged
 
   pub trace-c-script-damaged : (before after : List ℕ) (number : ℕ) → TraceC sheet changed before number after → (number ≡ 13) × (after ≡ before)
-  trace-c-script-damaged = trace-c-turned sheet changed Script script-damaged
+  trace-c-script-damaged = trace-c-turned sheet changed Malformed script-damaged
 
 -- An admitted sheet, changed so, gets 2, whatever the script.
 module _ (sheet changed script : List ℕ) (admitted : reading sheet .answer ≡ Admitted) (damaged : Damaged sheet changed) where
-  sheet-damaged : played changed script ≡ TurnedAway (Own CheckWord)
+  sheet-damaged : played changed script ≡ TurnedAway (Base CheckWord)
   sheet-damaged = own-exactly changed script CheckWord .1 (damaged-is-2 sheet changed admitted damaged)
 
-  pub play-damaged : (answer : Played) → Play changed script answer → answer ≡ TurnedAway (Own CheckWord)
-  play-damaged = play-turned changed script (Own CheckWord) sheet-damaged
+  pub play-damaged : (answer : Played) → Play changed script answer → answer ≡ TurnedAway (Base CheckWord)
+  play-damaged = play-turned changed script (Base CheckWord) sheet-damaged
 
   pub trace-damaged : (before after : List ℕ) (answer : Played) → Trace changed script before answer after
-      → (answer ≡ TurnedAway (Own CheckWord)) × (after ≡ before)
-  trace-damaged = trace-turned-so changed script (Own CheckWord) sheet-damaged
+      → (answer ≡ TurnedAway (Base CheckWord)) × (after ≡ before)
+  trace-damaged = trace-turned-so changed script (Base CheckWord) sheet-damaged
 
   pub play-c-damaged : (number : ℕ) → PlayC changed script number → number ≡ 2
-  play-c-damaged = play-c-turned changed script (Own CheckWord) sheet-damaged
+  play-c-damaged = play-c-turned changed script (Base CheckWord) sheet-damaged
 
   pub trace-c-damaged : (before after : List ℕ) (number : ℕ) → TraceC changed script before number after → (number ≡ 2) × (after ≡ before)
-  trace-c-damaged = trace-c-turned changed script (Own CheckWord) sheet-damaged
+  trace-c-damaged = trace-c-turned changed script (Base CheckWord) sheet-damaged

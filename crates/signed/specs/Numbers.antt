@@ -21,7 +21,7 @@ use Rattle.lists.specs.declared.ListRead.{ListRead}
 use Rattle.lists.specs.declared.ListRead.the-variants.{Set}
 use Rattle.lists.specs.declared.ListRead.the-variants.{TurnedAway as not-read}
 use Rattle.player.specs.declared.PlayRefusal.{PlayRefusal}
-use Rattle.player.specs.declared.PlayRefusal.the-variants.{Own, Script, Item}
+use Rattle.player.specs.declared.PlayRefusal.the-variants.{Base, Malformed, Item}
 use Rattle.player.specs.declared.Played.{Played}
 use Rattle.player.specs.declared.Played.the-variants.{Done}
 use Rattle.player.specs.declared.Played.the-variants.{Missed as first-missed, TurnedAway as not-played}
@@ -87,7 +87,7 @@ ended-by detail =
 
 -- beside the refusals of every entry 13, and 14 with the item as its detail
 unfoldable pub play-refused-by : ℕ → PlayRefusal
-play-refused-by c = cond (eqb (c % 256) 13) Script (cond (eqb (c % 256) 14) (Item (c / 256)) (Own (refused-by c)))
+play-refused-by c = cond (eqb (c % 256) 13) Malformed (cond (eqb (c % 256) 14) (Item (c / 256)) (Base (refused-by c)))
 
 unfoldable pub played-by : ℕ → Played
 played-by c = cond (eqb (c % 256) 0) (ended-by (c / 256)) (not-played (play-refused-by c))

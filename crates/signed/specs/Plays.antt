@@ -15,11 +15,11 @@ use Rattle.analysis.specs.Runs.{RunOf}
 use Rattle.plays.specs.ScriptRun.{script-run}
 use Rattle.plays.specs.Broken.{BrokenAt}
 use Rattle.plays.specs.Play.{shown}
-use Rattle.plays.specs.Says.{FirstMiss, NoMiss, LastComplete}
+use Rattle.plays.specs.Says.{FirstMiss, NeverMisses, LastComplete}
 use Rattle.scripts.specs.Reading.{well-made}
 use Rattle.player.specs.Answers.{order-in, script-for, play-checks, played}
 use Rattle.player.specs.declared.PlayRefusal.{PlayRefusal}
-use Rattle.player.specs.declared.PlayRefusal.the-variants.{Own, Script, Item}
+use Rattle.player.specs.declared.PlayRefusal.the-variants.{Base, Malformed, Item}
 use Rattle.player.specs.declared.Played.{Played}
 use Rattle.player.specs.declared.Played.the-variants.{Missed, Done, TurnedAway}
 
@@ -32,9 +32,9 @@ pub record PlaySigned (sheet script : List ℕ) (answer : Played) : Type 0 where
   -- it is a refusal exactly where that is the first of the order: the sheet's own, 13, 14 item by item
   pub turned : (why : PlayRefusal) → (answer ≡ TurnedAway why) ↔ (first-refusal (play-checks sheet script) ≡ some why)
   -- it is one of the sheet's own exactly where the sheet gets it, whatever the script
-  pub own : (why : Refusal) → (answer ≡ TurnedAway (Own why)) ↔ (reading sheet .answer ≡ Refused why)
+  pub own : (why : Refusal) → (answer ≡ TurnedAway (Base why)) ↔ (reading sheet .answer ≡ Refused why)
   -- it is 13 exactly where the sheet is admitted and the bytes are not made as a script of its tasks is
-  pub ill-made : (answer ≡ TurnedAway Script) ↔ ((reading sheet .answer ≡ Admitted) × (well-made (length (tasks-of sheet)) script ≡ false))
+  pub ill-made : (answer ≡ TurnedAway Malformed) ↔ ((reading sheet .answer ≡ Admitted) × (well-made (length (tasks-of sheet)) script ≡ false))
   -- it is 14 with item j exactly where the sheet is admitted, the bytes are made so, and item j is the first that is wrong
   pub item : (j : ℕ) → (answer ≡ TurnedAway (Item j))
       ↔ ((reading sheet .answer ≡ Admitted) × (well-made (length (tasks-of sheet)) script ≡ true) × BrokenAt (order-in sheet) (tasks-of sheet) (script-for sheet script) j)
@@ -45,7 +45,7 @@ pub record PlaySigned (sheet script : List ℕ) (answer : Played) : Type 0 where
   -- it is that all is done at tick t exactly where nothing is turned away, no job of the run misses, and the last is complete at t
   pub done : (t : ℕ) → (answer ≡ Done t)
       ↔ (Playable sheet script
-      × NoMiss (order-in sheet) (tasks-of sheet) (script-for sheet script)
+      × NeverMisses (order-in sheet) (tasks-of sheet) (script-for sheet script)
       × LastComplete (order-in sheet) (tasks-of sheet) (script-for sheet script) t)
 
 -- how many ticks are played by an answer: up to the tick that it names, or none
@@ -57,7 +57,7 @@ ticks-said (TurnedAway why) = 0
 -- What we sign for a trace: of its answer, and of the lent bytes before and after.
 pub record TraceSigned (sheet script before : List ℕ) (answer : Played) (after : List ℕ) : Type 0 where
   -- it is 12 exactly where the lent bytes are fewer than the ticks that a play says
-  pub no-room : (answer ≡ TurnedAway (Own Room)) ↔ (length before < ticks-said (played sheet script))
+  pub no-room : (answer ≡ TurnedAway (Base Room)) ↔ (length before < ticks-said (played sheet script))
   -- else it is the answer of a play
   pub as-play : ticks-said (played sheet script) ≤ length before → (answer ≡ played sheet script) × PlaySigned sheet script answer
   -- a refusal leaves the bytes as they were

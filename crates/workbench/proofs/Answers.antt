@@ -28,7 +28,7 @@ use Rattle.analysis.specs.Times.{number-at, blocker-number, verdict-number, out
 use Rattle.analysis.specs.Answers.{blocker-code, code, refused-analysis, analysis-by, sheet-analysis}
 use Rattle.analysis.specs.Findings.{in-turn, times-by-number}
 use Rattle.analysis.proofs.Entries.{times-long, by-number-is}
-use Rattle.workbench.specs.Entry.{task-size, four-bytes, checking, entry-number, entry-left}
+use Rattle.workbench.specs.Entry.{task-size, as-bytes, checking, entry-number, entry-left}
 use Rattle.workbench.proofs.Four.{length-four}
 
 -- ---- the number is small
@@ -58,18 +58,18 @@ module _ (s room : List ℕ) where
   n = length (tasks-of s)
 
   -- the bytes that an admitted sheet asks for
-  slots : decided (sheet-checks s) ≡ Admitted → length (four-bytes (times-of (policy-of s) (tasks-of s))) ≡ task-size * n
+  slots : decided (sheet-checks s) ≡ Admitted → length (as-bytes (times-of (policy-of s) (tasks-of s))) ≡ task-size * n
   slots e =
       length-four (times-of (policy-of s) (tasks-of s))
       ∙ omega (arith, times-long (policy-of s) (tasks-of s) (by-reading s (reading-answer s ∙ e) .counted))
 
   done-by : (a : Answer) → decided (sheet-checks s) ≡ a → task-size * analysis-by a (policy-of s) (tasks-of s) .«task_count» ≤ length room
       → (code (analysis-by a (policy-of s) (tasks-of s) .outcome) ≡ entry-number s room)
-      × (laid (four-bytes (times-by-number (analysis-by a (policy-of s) (tasks-of s)))) room ≡ entry-left s room)
-  unfolding entry-number entry-left checking analysis-by refused-analysis times-by-number in-turn four-bytes laid
+      × (laid (as-bytes (times-by-number (analysis-by a (policy-of s) (tasks-of s)))) room ≡ entry-left s room)
+  unfolding entry-number entry-left checking analysis-by refused-analysis times-by-number in-turn as-bytes laid
   done-by Admitted e h =
       let d = done-tells Room number-of (checking s) room (all-done Room number-of (checking s) room (none-applies (sheet-checks s) e) (rw (slots e) h)) in
-      (d .0, ap (λ (l : List ℕ). laid (four-bytes l) room) (by-number-is (policy-of s) (tasks-of s)) ∙ d .1)
+      (d .0, ap (λ (l : List ℕ). laid (as-bytes l) room) (by-number-is (policy-of s) (tasks-of s)) ∙ d .1)
   done-by (refused r) e h = turned-tells Room number-of (checking s) room (by-checks Room number-of (checking s) room r (one-applies (sheet-checks s) r e))
 
   short-by : (a : Answer) → decided (sheet-checks s) ≡ a → length room < task-size * analysis-by a (policy-of s) (tasks-of s) .«task_count»
@@ -87,7 +87,7 @@ module _ (s room : List ℕ) where
 
   -- the room is there
   pub done : task-size * sheet-analysis s .«task_count» ≤ length room
-      → (code (sheet-analysis s .outcome) ≡ entry-number s room) × (laid (four-bytes (times-by-number (sheet-analysis s))) room ≡ entry-left s room)
+      → (code (sheet-analysis s .outcome) ≡ entry-number s room) × (laid (as-bytes (times-by-number (sheet-analysis s))) room ≡ entry-left s room)
   unfolding sheet-analysis
   done h = done-by (decided (sheet-checks s)) refl h
 

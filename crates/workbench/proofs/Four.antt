@@ -19,7 +19,7 @@ use Rattle.analysis.specs.Inside.Numbered.{Numbered}
 use Rattle.analysis.specs.declared.Analysis.{Analysis}
 use Rattle.analysis.proofs.ByNumber.{Stands, stands-more, all-stand}
 use Rattle.analysis.proofs.Delivered.{number-below, numbers-apart, place-found, place-found-in, number-found-back, by-number-length}
-use Rattle.workbench.specs.Entry.{task-size, four-bytes}
+use Rattle.workbench.specs.Entry.{task-size, as-bytes}
 
 four : (l : List ℕ) → length l ≡ 4 → l ≡ getD l 0 0 ∷ getD l 1 0 ∷ getD l 2 0 ∷ getD l 3 0 ∷ []
 four (a ∷ b ∷ c ∷ d ∷ []) e = refl
@@ -43,24 +43,24 @@ put-four s at n h =
 
 -- ---- many numbers
 
-pub length-four : (xs : List ℕ) → length (four-bytes xs) ≡ 4 * length xs
-unfolding four-bytes
+pub length-four : (xs : List ℕ) → length (as-bytes xs) ≡ 4 * length xs
+unfolding as-bytes
 length-four [] = refl
-length-four (x ∷ xs) = rw (length-append (bytes-of 4 (digits 32 x)) (four-bytes xs), length-bytes 4 (digits 32 x), length-four xs) (omega arith)
+length-four (x ∷ xs) = rw (length-append (bytes-of 4 (digits 32 x)) (as-bytes xs), length-bytes 4 (digits 32 x), length-four xs) (omega arith)
 
-pub four-append : (xs ys : List ℕ) → four-bytes (xs ++ ys) ≡ four-bytes xs ++ four-bytes ys
-unfolding four-bytes
+pub four-append : (xs ys : List ℕ) → as-bytes (xs ++ ys) ≡ as-bytes xs ++ as-bytes ys
+unfolding as-bytes
 four-append [] ys = refl
-four-append (x ∷ xs) ys = ap (λ (l : List ℕ). bytes-of 4 (digits 32 x) ++ l) (four-append xs ys) ∙ sym (append-assoc (bytes-of 4 (digits 32 x)) (four-bytes xs) (four-bytes ys))
+four-append (x ∷ xs) ys = ap (λ (l : List ℕ). bytes-of 4 (digits 32 x) ++ l) (four-append xs ys) ∙ sym (append-assoc (bytes-of 4 (digits 32 x)) (as-bytes xs) (as-bytes ys))
 
 -- the times of one task put from a position on, one after another
 module _ (d : List ℕ) (at : ℕ) (xs : List ℕ) where
   -- the first i of them
   pub fours : ℕ → List ℕ
-  fours i = take at d ++ four-bytes (take i xs) ++ drop (at + 4 * i) d
+  fours i = take at d ++ as-bytes (take i xs) ++ drop (at + 4 * i) d
 
   pub none-put : d ≡ fours 0
-  unfolding fours four-bytes
+  unfolding fours as-bytes
   none-put = rw (append-nil (take at d), add-zero at) (sym (take-append-drop at d))
 
   pub length-fours : (i : ℕ) → i ≤ length xs → at + 4 * i ≤ length d → length (fours i) ≡ length d
@@ -69,47 +69,47 @@ module _ (d : List ℕ) (at : ℕ) (xs : List ℕ) where
 
   pub fours-more : (i : ℕ) → i < length xs → at + 4 * (i + 1) ≤ length d
       → take (at + 4 * i) (fours i) ++ bytes-of 4 (digits 32 (getD xs i 0)) ++ drop (at + 4 * i + 4) (fours i) ≡ fours (i + 1)
-  unfolding fours four-bytes
+  unfolding fours as-bytes
   fours-more i h l =
-      let f = four-bytes (take i xs) in
+      let f = as-bytes (take i xs) in
       let g = bytes-of 4 (digits 32 (getD xs i 0)) in
       let long : length f ≡ 4 * i = length-four (take i xs) ∙ ap (λ (k : ℕ). 4 * k) (length-take-le i xs (omega arith)) in
-      let more : four-bytes (take (i + 1) xs) ≡ f ++ g = rw (add-one i, take-suc xs i 0 h, four-append (take i xs) (getD xs i 0 ∷ []), append-nil g) in
+      let more : as-bytes (take (i + 1) xs) ≡ f ++ g = rw (add-one i, take-suc xs i 0 h, four-append (take i xs) (getD xs i 0 ∷ []), append-nil g) in
       ap₂ (λ (j k : ℕ). let over = take at d ++ f ++ drop (at + j) d in take (at + j) over ++ g ++ drop (at + j + k) over) (sym long) (sym (length-bytes 4 (digits 32 (getD xs i 0))))
       ∙ rows-behind at f g d (omega arith)
       ∙ ap₂ (λ (l : List ℕ) (k : ℕ). take at d ++ l ++ drop (at + k) d) (sym more) (ap length (sym more) ∙ length-four (take (i + 1) xs) ∙ ap (λ (k : ℕ). 4 * k) (length-take-le (i + 1) xs (omega arith)))
 
-  pub all-put : (i : ℕ) → i ≡ most-frames → length xs ≡ most-frames → fours i ≡ take at d ++ four-bytes xs ++ drop (at + task-size) d
+  pub all-put : (i : ℕ) → i ≡ most-frames → length xs ≡ most-frames → fours i ≡ take at d ++ as-bytes xs ++ drop (at + task-size) d
   unfolding fours
   all-put i e l = rw (e, take-all most-frames xs (omega arith))
 
 -- ---- rows of times in task-number order
 
-four-in-turn : (row : ℕ → List ℕ) (i n : ℕ) → in-turn (λ j. four-bytes (row j)) i n ≡ four-bytes (in-turn row i n)
-unfolding in-turn four-bytes
+four-in-turn : (row : ℕ → List ℕ) (i n : ℕ) → in-turn (λ j. as-bytes (row j)) i n ≡ as-bytes (in-turn row i n)
+unfolding in-turn as-bytes
 four-in-turn row i zero = refl
-four-in-turn row i (suc n) = ap (λ (l : List ℕ). four-bytes (row i) ++ l) (four-in-turn row (suc i) n) ∙ sym (four-append (row i) (in-turn row (suc i) n))
+four-in-turn row i (suc n) = ap (λ (l : List ℕ). as-bytes (row i) ++ l) (four-in-turn row (suc i) n) ∙ sym (four-append (row i) (in-turn row (suc i) n))
 
 -- after p places their times stand at their numbers
 abbrev pub AtNumbers : Analysis → List ℕ → List ℕ → ℕ → Type 0
-AtNumbers a = Stands 0 task-size (a .«task_count») (λ p. finding-in a p .number) (λ p. four-bytes (finding-in a p .times))
+AtNumbers a = Stands 0 task-size (a .«task_count») (λ p. finding-in a p .number) (λ p. as-bytes (finding-in a p .times))
 
 module _ (a : Analysis) (h : Numbered a) (room : List ℕ) (enough : task-size * a .«task_count» ≤ length room) where
-  wide : (p : ℕ) → p < a .«task_count» → length (four-bytes (finding-in a p .times)) ≡ task-size
+  wide : (p : ℕ) → p < a .«task_count» → length (as-bytes (finding-in a p .times)) ≡ task-size
   wide p l = length-four (finding-in a p .times) ∙ ap (λ (k : ℕ). 4 * k) (h .eight p l)
 
   pub numbers-more : (now : List ℕ) (p : ℕ) → p < a .«task_count» → AtNumbers a room now p
-      → AtNumbers a room (take (task-size * finding-in a p .number) now ++ four-bytes (finding-in a p .times) ++ drop (task-size * finding-in a p .number + task-size) now) (p + 1)
+      → AtNumbers a room (take (task-size * finding-in a p .number) now ++ as-bytes (finding-in a p .times) ++ drop (task-size * finding-in a p .number + task-size) now) (p + 1)
   numbers-more now p l s =
-      stands-more 0 task-size (a .«task_count») (λ p. finding-in a p .number) (λ p. four-bytes (finding-in a p .times)) (number-below a h) (numbers-apart a h) wide room enough now p l s
+      stands-more 0 task-size (a .«task_count») (λ p. finding-in a p .number) (λ p. as-bytes (finding-in a p .times)) (number-below a h) (numbers-apart a h) wide room enough now p l s
 
-  four-long : length (four-bytes (times-by-number a)) ≡ task-size * a .«task_count»
+  four-long : length (as-bytes (times-by-number a)) ≡ task-size * a .«task_count»
   four-long = length-four (times-by-number a) ∙ omega (arith, by-number-length a h)
 
-  pub all-numbers : (now : List ℕ) → AtNumbers a room now (a .«task_count») → now ≡ laid (four-bytes (times-by-number a)) room
+  pub all-numbers : (now : List ℕ) → AtNumbers a room now (a .«task_count») → now ≡ laid (as-bytes (times-by-number a)) room
   unfolding laid times-by-number
   all-numbers now s =
-      all-stand 0 task-size (a .«task_count») (λ p. finding-in a p .number) (λ p. four-bytes (finding-in a p .times)) (number-below a h) (numbers-apart a h) wide room enough
+      all-stand 0 task-size (a .«task_count») (λ p. finding-in a p .number) (λ p. as-bytes (finding-in a p .times)) (number-below a h) (numbers-apart a h) wide room enough
       (place-found a h) (place-found-in a h) (number-found-back a h) now s
       ∙ ap (λ (l : List ℕ). l ++ drop (task-size * a .«task_count») room) (four-in-turn (λ i. finding-in a (place-found a h i) .times) 0 (a .«task_count»))
-      ∙ ap (λ (m : ℕ). four-bytes (times-by-number a) ++ drop m room) (sym four-long)
+      ∙ ap (λ (m : ℕ). as-bytes (times-by-number a) ++ drop m room) (sym four-long)

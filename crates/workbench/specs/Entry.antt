@@ -19,16 +19,16 @@ abbrev pub task-size : ℕ
 task-size = time-size * most-frames
 
 -- times in four bytes each, the high byte first
-unfoldable pub four-bytes : List ℕ → List ℕ
-four-bytes [] = []
-four-bytes (t ∷ ts) = bytes-of time-size (digits 32 t) ++ four-bytes ts
+unfoldable pub as-bytes : List ℕ → List ℕ
+as-bytes [] = []
+as-bytes (t ∷ ts) = bytes-of time-size (digits 32 t) ++ as-bytes ts
 
 -- checking a sheet: its own refusals, its times in four bytes each, its outcome's number
 unfoldable pub checking : List ℕ → Call Refusal ℕ ℕ
 checking s =
     record {
       checks = sheet-checks s;
-      writes = four-bytes (times-of (policy-of s) (tasks-of s));
+      writes = as-bytes (times-of (policy-of s) (tasks-of s));
       says = code (outcome-of (policy-of s) (tasks-of s));
     }
 

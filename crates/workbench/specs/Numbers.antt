@@ -15,8 +15,9 @@ use Rattle.lists.specs.declared.ListRead.the-variants.{Set}
 use Rattle.lists.specs.declared.ListRead.the-variants.{TurnedAway as turned-away}
 use Rattle.worst.specs.declared.Worst.{Worst}
 use Rattle.worst.specs.declared.Worst.the-variants.{Holds as holds-all, Written as script-written, TurnedAway as no-worst}
+use Rattle.player.specs.Refusals.{play-number-of}
 use Rattle.player.specs.declared.PlayRefusal.{PlayRefusal}
-use Rattle.player.specs.declared.PlayRefusal.the-variants.{Own, Script, Item}
+use Rattle.player.specs.declared.PlayRefusal.the-variants.{Base, Malformed, Item}
 use Rattle.player.specs.declared.Played.{Played}
 use Rattle.player.specs.declared.Played.the-variants.{Done}
 use Rattle.player.specs.declared.Played.the-variants.{Missed as missed, TurnedAway as not-played}
@@ -62,18 +63,11 @@ outcome-number (Refused r) count = refused-number r
 abbrev pub decision-number : Decision → ℕ
 decision-number d = outcome-number (d .outcome) (d .«task_count»)
 
--- the refusals that only scripts get: one that is not made as a script is, and one with an item that is out of range, out of order or against a run rule
-abbrev pub script-refusal : ℕ
-script-refusal = 13
-
-abbrev pub item-refusal : ℕ
-item-refusal = 14
-
 -- why there is no play: a refusal of the sheet's or for want of room, the script's form, or an item, above it which
 abbrev pub play-refused-number : PlayRefusal → ℕ
-play-refused-number (Own r) = refused-number r
-play-refused-number Script = script-refusal
-play-refused-number (Item j) = item-refusal + byte * j
+play-refused-number (Base r) = refused-number r
+play-refused-number Malformed = play-number-of Malformed
+play-refused-number (Item j) = play-number-of (Item j) + byte * j
 
 -- how a play ends: the moment in thirty-two bits, above it the task that misses, or the number behind the last task's where all jobs are done
 abbrev pub play-number : ℕ → ℕ → ℕ

@@ -13,7 +13,7 @@ ghost use Rattle.report_text.specs.Text.{report-written, report-left};
 ghost use Rattle.player.specs.Answers.{played, traced, trace-left};
 ghost use Rattle.worst.specs.Writing.{worst-answer, worst-left};
 ghost use Rattle.workbench.specs.Numbers.{reason-number, refused-number, read-number, written-number, decision-number, play-refused-number, played-number, worst-number};
-ghost use Rattle.workbench.specs.Entry.{time-size, task-size, four-bytes, entry-number, entry-left};
+ghost use Rattle.workbench.specs.Entry.{time-size, task-size, as-bytes, entry-number, entry-left};
 use analysis::Analysis;
 use analysis::Decision;
 use analysis::Outcome;
@@ -46,7 +46,7 @@ fn put_four(bytes: &mut [u8], at: usize, n: u32)
 // The times of a task, four bytes each.
 fn put_task_times(bytes: &mut [u8], at: usize, times: [u32; Sheet::FRAME_ROOM])
     requires { ⌜ at + task-size ≤ length (now bytes) ⌝ }
-    ensures { λ _. ⌜ now (bytes .exit) ≡ take at (now (bytes .entry)) ++ four-bytes times ++ drop (at + task-size) (now (bytes .entry)) ⌝ }
+    ensures { λ _. ⌜ now (bytes .exit) ≡ take at (now (bytes .entry)) ++ as-bytes times ++ drop (at + task-size) (now (bytes .entry)) ⌝ }
 {
     for k in 0..Sheet::FRAME_ROOM {
         put_four(bytes, at + TIME_SIZE * k, times[k]);
@@ -56,7 +56,7 @@ fn put_task_times(bytes: &mut [u8], at: usize, times: [u32; Sheet::FRAME_ROOM])
 // The times of an analysis, each task's at its number.
 fn put_times(a: Analysis, bytes: &mut [u8])
     requires { ⌜ (Numbered a) × (task-size * a .«task_count» ≤ length (now bytes)) ⌝ }
-    ensures { λ _. ⌜ now (bytes .exit) ≡ laid (four-bytes (times-by-number a)) (now (bytes .entry)) ⌝ }
+    ensures { λ _. ⌜ now (bytes .exit) ≡ laid (as-bytes (times-by-number a)) (now (bytes .entry)) ⌝ }
 {
     let count = a.task_count as usize;
     for p in 0..count {
@@ -87,11 +87,6 @@ const BYTE: u64 = 256;
 const TWO_BYTES: u64 = BYTE * BYTE;
 
 const FOUR_BYTES: u64 = TWO_BYTES * TWO_BYTES;
-
-// The refusals that only scripts get.
-const SCRIPT_REFUSAL: u64 = 13;
-
-const ITEM_REFUSAL: u64 = 14;
 
 fn reason_number(why: Reason) -> u64
     ensures { λ r. ⌜ r ≡ reason-number why ⌝ }
@@ -146,10 +141,11 @@ fn play_refused_number(why: PlayRefusal) -> u64
     requires { ⌜ play-refused-number why < 2 ^ 64 ⌝ }
     ensures { λ r. ⌜ r ≡ play-refused-number why ⌝ }
 {
+    let number = why.number() as u64;
     match why {
-        PlayRefusal::Own(refusal) => refused_number(refusal),
-        PlayRefusal::Script => SCRIPT_REFUSAL,
-        PlayRefusal::Item(item) => ITEM_REFUSAL + BYTE * item as u64,
+        PlayRefusal::Base(refusal) => refused_number(refusal),
+        PlayRefusal::Malformed => number,
+        PlayRefusal::Item(item) => number + BYTE * item as u64,
     }
 }
 

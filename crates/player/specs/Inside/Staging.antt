@@ -19,7 +19,7 @@ use Rattle.scripts.specs.Judging.{judgement}
 use Rattle.scripts.specs.declared.Judgement.{Judgement}
 use Rattle.scripts.specs.declared.Judgement.the-variants.{Sound, Malformed, Unsound}
 use Rattle.player.specs.declared.PlayRefusal.{PlayRefusal}
-use Rattle.player.specs.declared.PlayRefusal.the-variants.{Own, Script, Item}
+use Rattle.player.specs.declared.PlayRefusal.the-variants.{Base, Malformed as ill-made, Item}
 use Rattle.player.specs.declared.Played.{Played}
 use Rattle.player.specs.declared.Played.the-variants.{Missed, Done}
 use Rattle.player.specs.declared.Readiness.the-variants.{Playable, Unplayable}
@@ -47,7 +47,7 @@ not-staged why = record { readiness = Unplayable why; cast = no-cast }
 -- a set and a script by how that is judged
 unfoldable pub staged-by : Judgement → TaskSet → List ℕ → Staged
 staged-by Sound set bytes = record { readiness = Playable; cast = cast-for set bytes }
-staged-by Malformed set bytes = not-staged Script
+staged-by Malformed set bytes = not-staged ill-made
 staged-by (Unsound j) set bytes = not-staged (Item j)
 
 unfoldable pub set-staged : TaskSet → List ℕ → Staged
@@ -56,7 +56,7 @@ set-staged set bytes = staged-by (judgement (map task-in (records-of set)) bytes
 -- a sheet by the answer to it
 unfoldable pub answer-staged : Answer → TaskSet → List ℕ → Staged
 answer-staged Admitted set bytes = set-staged set bytes
-answer-staged (Refused why) set bytes = not-staged (Own why)
+answer-staged (Refused why) set bytes = not-staged (Base why)
 
 unfoldable pub sheet-staged : List ℕ → List ℕ → Staged
 sheet-staged sheet bytes = answer-staged (decided (sheet-checks sheet)) (set-with (policy-of sheet) (tasks-of sheet)) bytes

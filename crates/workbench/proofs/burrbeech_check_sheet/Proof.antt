@@ -8,7 +8,7 @@ use Rattle.analysis.specs.declared.Analysis.{Analysis}
 use Rattle.analysis.specs.Findings.{times-by-number}
 use Rattle.analysis.proofs.Entries.{sheet-numbered}
 use Rattle.lent.specs.Lent.{laid}
-use Rattle.workbench.specs.Entry.{four-bytes}
+use Rattle.workbench.specs.Entry.{as-bytes}
 use Rattle.workbench.proofs.Answers.{done, short, small}
 use borrow.Author.Needs.{needs}
 use Rattle.workbench.proofs.burrbeech_check_sheet.Statement.{statement}
@@ -58,7 +58,7 @@ returns-2 c =
     let yes-room = done (now (a .sheet)) room (rw (← e) (omega arith)) in (
       c .code .ensures ∙ ap (λ (x : Analysis). code (x .outcome)) e ∙ yes-room .0,
       c .before .before .before .put-times .ensures
-          ∙ ap (λ (x : Analysis). laid (four-bytes (times-by-number x)) room) e
+          ∙ ap (λ (x : Analysis). laid (as-bytes (times-by-number x)) room) e
           ∙ yes-room .1,
     )
 
