@@ -1,9 +1,10 @@
--- The theorems on scripts and plays are in ScriptLegal, Refused, OnePending, PlayEnds, PlaySays, WorstPlayed, WorstSound and WorstMiss; the rest stands below these.
+-- The theorems on scripts and plays are in ScriptLegal, Refused, OnePending, PlayEnds, PlaySays, TickSays, WorstPlayed, WorstSound and WorstMiss; the rest stands below these.
 pub mod ScriptLegal
 pub mod Refused
 pub mod OnePending
 pub mod PlayEnds
 pub mod PlaySays
+pub mod TickSays
 pub mod WorstPlayed
 pub mod WorstSound
 pub mod WorstMiss

@@ -1,12 +1,14 @@
 -- SCOPE.md, "The player": what the end of a play says of the script's run, in the words of the theory.
 use mathlib.Core.List.{List, List·Memᴰ}
 use mathlib.Core.Logic.{_⊎_}
+use mathlib.Core.Option.{none, some}
 use mathlib.Core.Path.{_≡_}
-use Prim.Native.Nat.{ℕ, suc, _+_, _≤_, _<_}
+use Prim.Native.Nat.{ℕ, zero, suc, _+_, _*_, _≤_, _<_}
 use lib.ListN.{length}
 use Rattle.theory.specs.Tasks.{Task, task-at, deadline-of}
-use Rattle.theory.specs.Runs.{Run, Left, Misses}
-use Rattle.analysis.specs.Times.{place-of}
+use Rattle.theory.specs.Runs.{Run, seen-at, pick, stretch-now, Left, Misses}
+use Rattle.sheet.specs.Constants.{most-tasks}
+use Rattle.analysis.specs.Times.{number-at, place-of}
 use Rattle.plays.specs.Script.{Script}
 use Rattle.plays.specs.declared.Entry.{Entry}
 use Rattle.plays.specs.ScriptRun.{by-place, script-run}
@@ -57,3 +59,15 @@ module _ (order : List ℕ) (tasks : List Task) (sc : Script) where
     pub all-released : AllReleased (sc .entries) t
     pub all-complete : (i r k w : ℕ) → i < length tasks → Left (by-place order tasks) (script-run order tasks sc (suc t)) (place-of order i) r k t w → w ≡ 0
     pub not-before : (u : ℕ) → u < t → Later (sc .entries) u ⊎ WorkLeft u
+
+  -- the length of the stretch at tick u of the run of n ticks, 0 for none
+  abbrev pub stretch-in : ℕ → ℕ → ℕ
+  stretch-in n u = let run = script-run order tasks sc n in stretch-now (seen-at (by-place order tasks) run u .to-come) (run .input u .stretch)
+
+  -- what a byte says of tick u of the run of n ticks: the tick is idle, or a task has it, or a task has it in a locked stretch
+  pub data TickSays (n u : ℕ) : ℕ → Type 0 where
+    idle : pick (by-place order tasks) (seen-at (by-place order tasks) (script-run order tasks sc n) u) ≡ none → TickSays n u most-tasks
+    unlocked : (p : ℕ) → pick (by-place order tasks) (seen-at (by-place order tasks) (script-run order tasks sc n) u) ≡ some p → stretch-in n u ≡ 0
+        → TickSays n u (number-at order p)
+    locked : (p m : ℕ) → pick (by-place order tasks) (seen-at (by-place order tasks) (script-run order tasks sc n) u) ≡ some p → stretch-in n u ≡ suc m
+        → TickSays n u (number-at order p + 2 * most-tasks)

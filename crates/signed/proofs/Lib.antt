@@ -11,6 +11,7 @@ pub mod Damage
 pub mod Words
 pub mod Report
 pub mod Signed
+pub mod Read
 pub mod Played
 pub mod Plays
 pub mod WorstRuns

@@ -34,10 +34,13 @@ use Rattle.player.specs.declared.PlayRefusal.the-variants.{Base}
 use Rattle.player.specs.declared.Played.{Played}
 use Rattle.player.specs.declared.Played.the-variants.{TurnedAway as not-played}
 use Rattle.player.proofs.Within.{RefusalWithin, own-within, script-within, item-within, Within, missed-within, done-within, turned-within}
-use Rattle.workbench.specs.Numbers.{reason-number, refused-number, read-number, written-number, outcome-number, play-refused-number, played-number}
+use Rattle.worst.specs.declared.Worst.{Worst}
+use Rattle.worst.specs.declared.Worst.the-variants.{Written as script-written}
+use Rattle.worst.specs.declared.Worst.the-variants.{Holds as set-holds, TurnedAway as no-script}
+use Rattle.workbench.specs.Numbers.{reason-number, refused-number, read-number, written-number, outcome-number, play-refused-number, played-number, worst-number}
 use Rattle.workbench.proofs.Small.{NamesBelow, names-more, room-names, sheet-names}
 use Rattle.signed.specs.Claims.{missed, refused, said}
-use Rattle.signed.specs.Numbers.{blocker-by, said-by, refusal-by, reason-by, refused-by, list-read-by, written-by, verdict-by, analysed-by, decision-by, ended-by, play-refused-by, played-by}
+use Rattle.signed.specs.Numbers.{blocker-by, said-by, refusal-by, reason-by, refused-by, list-read-by, written-by, verdict-by, analysed-by, decision-by, ended-by, play-refused-by, played-by, script-by, worst-by}
 
 -- ---- refusals
 
@@ -245,3 +248,12 @@ module _ (sheet script : List ℕ) where
   played-back _ (done-within t h) =
       rw (with-none (t + 4294967296 * 16), detail (t + 4294967296 * 16), tick-part t 16 (omega arith) (omega arith), task-part t 16 (omega arith) (omega arith))
   played-back _ (turned-within r h) = why-back r h
+
+-- ---- a worst run
+
+-- each answer comes back from its number, since what is written has a byte
+pub worst-back : (w : Worst) → ((n : ℕ) → w ≡ script-written n → 1 ≤ n) → ((why : Refusal) → w ≡ no-script why → NamesSmall why) → worst-by (worst-number w) ≡ w
+unfolding worst-by script-by
+worst-back set-holds has names = refl
+worst-back (script-written n) has names = let h = has n refl in rw (with-none n, detail n, ne-eqb n 0 (omega arith))
+worst-back (no-script r) has names = rw (with-refusal r) (ap no-script (refused-back r (names r refl)))

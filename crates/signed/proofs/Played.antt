@@ -7,19 +7,13 @@ use Prim.Native.Nat.{ℕ, _≤_, _<_}
 use native.Mathlib.Nat.{zero-add}
 use native.Mathlib.Omega.{arith}
 use lib.ListN.{length, getD, drop, List·getD-append}
-use lib.Seq.{drop-at}
 use Rattle.lent.specs.Checks.{first-refusal}
 use Rattle.lent.specs.Lent.{laid}
-use Rattle.lent.proofs.Checks.{each-first}
 use Rattle.lent.proofs.Laid.{laid-length}
-use Rattle.sheet.specs.Reading.{sheet-checks, tasks-of, reading}
-use Rattle.sheet.specs.declared.Answer.the-variants.{Admitted, Refused}
-use Rattle.sheet.specs.declared.Refusal.{Refusal}
+use Rattle.sheet.specs.Reading.{tasks-of}
 use Rattle.sheet.specs.declared.Refusal.the-variants.{Room}
-use Rattle.sheet.proofs.Checks.{admits, refuses, none-applies, one-applies}
-use Rattle.sheet.proofs.Carried.{reading-answer}
-use Rattle.sheet.proofs.Refused.{Covers, sheet-each}
 use Rattle.plays.specs.Play.{misser, shown, shown-from}
+use Rattle.plays.proofs.TickSays.{shown-says}
 use Rattle.player.specs.Answers.{order-in, script-for, play-checks, ended, stops-at, play-end, played, traced, trace-left}
 use Rattle.player.specs.declared.PlayRefusal.{PlayRefusal}
 use Rattle.player.specs.declared.PlayRefusal.the-variants.{Base}
@@ -28,37 +22,10 @@ use Rattle.player.proofs.Playing.{shown-length, shown-at}
 use Rattle.player.proofs.Ways.{played-turned, played-ends, Traced, not-played, no-room, is-traced, trace-way}
 use Rattle.player.proofs.Exactly.{turned-exactly, own-exactly, form-exactly, item-exactly, run-of-set, missed-exactly, done-exactly}
 use Rattle.signed.specs.Plays.{PlaySigned, ticks-said, TraceSigned}
+use Rattle.signed.proofs.Read.{admitted-is, refused-is, not-for-room, behind-laid}
 
 one-refusal : {q r : PlayRefusal} → TurnedAway q ≡ TurnedAway r → q ≡ r
 one-refusal e = cc
-
--- ---- admission, as the reading of a sheet says it
-
-module _ (sheet : List ℕ) where
-  admitted-is : (first-refusal (sheet-checks sheet) ≡ none) ↔ (reading sheet .answer ≡ Admitted)
-  admitted-is = (λ e. reading-answer sheet ∙ admits (sheet-checks sheet) e, λ a. none-applies (sheet-checks sheet) (sym (reading-answer sheet) ∙ a))
-
-  refused-is : (why : Refusal) → (first-refusal (sheet-checks sheet) ≡ some why) ↔ (reading sheet .answer ≡ Refused why)
-  refused-is why = (λ e. reading-answer sheet ∙ refuses (sheet-checks sheet) why e, λ a. one-applies (sheet-checks sheet) why (sym (reading-answer sheet) ∙ a))
-
-  -- no sheet is refused for want of room
-  not-for-room : ¬ (first-refusal (sheet-checks sheet) ≡ some Room)
-  not-for-room e =
-      let covers : Covers (λ r. ¬ (r ≡ Room)) (tasks-of sheet) =
-      record {
-        of-length = λ q. let z : _≡_ {A = ℕ} 0 1 = cc in omega arith;
-        of-check-word = λ q. let z : _≡_ {A = ℕ} 0 1 = cc in omega arith;
-        of-version = λ q. let z : _≡_ {A = ℕ} 0 1 = cc in omega arith;
-        of-policy = λ q. let z : _≡_ {A = ℕ} 0 1 = cc in omega arith;
-        of-bit-set = λ q. let z : _≡_ {A = ℕ} 0 1 = cc in omega arith;
-        of-task-count = λ q. let z : _≡_ {A = ℕ} 0 1 = cc in omega arith;
-        of-records = λ q. let z : _≡_ {A = ℕ} 0 1 = cc in omega arith;
-        of-frame-count = λ i l q. let z : _≡_ {A = ℕ} 0 1 = cc in omega arith;
-        of-form = λ i l q. let z : _≡_ {A = ℕ} 0 1 = cc in omega arith;
-        of-lock = λ i l q. let z : _≡_ {A = ℕ} 0 1 = cc in omega arith;
-        of-monotony = λ i l few none-starts q. let z : _≡_ {A = ℕ} 0 1 = cc in omega arith;
-      } in
-      each-first (λ r. ¬ (r ≡ Room)) (sheet-checks sheet) (sheet-each sheet covers) Room e refl
 
 module _ (sheet script : List ℕ) where
   -- ---- a play
@@ -147,12 +114,14 @@ module _ (sheet script : List ℕ) where
           as-play = λ h. (answers-as-play h, rw (answers-as-play h) played-signed);
           unchanged = λ why e. absurd (Option·none-ne-some why (sym f ∙ turned-exactly sheet script why .0 (sym as-played ∙ e)));
           shows = λ u h.
+              let byte : getD (trace-left sheet script before) u 0 ≡ shown (order-in sheet) (tasks-of sheet) (script-for sheet script) u =
               ap (λ m. getD m u 0) l
               ∙ List·getD-append bytes (drop (length bytes) before) 0 u (omega (arith, long, said))
               ∙ shown-at _ _ _ 0 (stops-at sheet script) u (omega (arith, said))
-              ∙ ap (shown (order-in sheet) (tasks-of sheet) (script-for sheet script)) (zero-add u);
+              ∙ ap (shown (order-in sheet) (tasks-of sheet) (script-for sheet script)) (zero-add u) in
+              rw byte (shown-says (order-in sheet) (tasks-of sheet) (script-for sheet script) _ u);
           same-length = ap length l ∙ laid-length bytes before (omega (arith, long));
-          same-behind = rw (said, l) (drop-at bytes _ (stops-at sheet script) long ∙ ap (λ n. drop n before) long);
+          same-behind = rw (said, l) (behind-laid bytes before (stops-at sheet script) long);
         }
       where
         bytes : List ℕ

@@ -25,6 +25,9 @@ use Rattle.player.specs.declared.PlayRefusal.the-variants.{Base, Malformed, Ite
 use Rattle.player.specs.declared.Played.{Played}
 use Rattle.player.specs.declared.Played.the-variants.{Done}
 use Rattle.player.specs.declared.Played.the-variants.{Missed as first-missed, TurnedAway as not-played}
+use Rattle.worst.specs.declared.Worst.{Worst}
+use Rattle.worst.specs.declared.Worst.the-variants.{Written as script-written}
+use Rattle.worst.specs.declared.Worst.the-variants.{Holds as set-holds, TurnedAway as no-script}
 use Rattle.signed.specs.Claims.{Said, holds, missed, refused}
 
 -- 16 stands for no blocker
@@ -91,3 +94,10 @@ play-refused-by c = cond (eqb (c % 256) 13) Malformed (cond (eqb (c % 256) 14) (
 
 unfoldable pub played-by : ℕ → Played
 played-by c = cond (eqb (c % 256) 0) (ended-by (c / 256)) (not-played (play-refused-by c))
+
+-- `burrbeech_worst_run`: the bytes written, 0 where the set holds
+unfoldable pub script-by : ℕ → Worst
+script-by detail = cond (eqb detail 0) set-holds (script-written detail)
+
+unfoldable pub worst-by : ℕ → Worst
+worst-by c = cond (eqb (c % 256) 0) (script-by (c / 256)) (no-script (refused-by c))

@@ -14,8 +14,7 @@ use Rattle.sheet.specs.declared.Refusal.the-variants.{Room}
 use Rattle.analysis.specs.Runs.{RunOf}
 use Rattle.plays.specs.ScriptRun.{script-run}
 use Rattle.plays.specs.Broken.{BrokenAt}
-use Rattle.plays.specs.Play.{shown}
-use Rattle.plays.specs.Says.{FirstMiss, NeverMisses, LastComplete}
+use Rattle.plays.specs.Says.{FirstMiss, NeverMisses, LastComplete, TickSays}
 use Rattle.scripts.specs.Reading.{well-made}
 use Rattle.player.specs.Answers.{order-in, script-for, play-checks, played}
 use Rattle.player.specs.declared.PlayRefusal.{PlayRefusal}
@@ -62,8 +61,8 @@ pub record TraceSigned (sheet script before : List ℕ) (answer : Played) (after
   pub as-play : ticks-said (played sheet script) ≤ length before → (answer ≡ played sheet script) × PlaySigned sheet script answer
   -- a refusal leaves the bytes as they were
   pub unchanged : (why : PlayRefusal) → answer ≡ TurnedAway why → after ≡ before
-  -- byte u says of tick u which task has it, or none, and whether in a locked stretch
-  pub shows : (u : ℕ) → u < ticks-said answer → getD after u 0 ≡ shown (order-in sheet) (tasks-of sheet) (script-for sheet script) u
+  -- byte u says of tick u of the run which task has it, or none, and whether in a locked stretch
+  pub shows : (u : ℕ) → u < ticks-said answer → TickSays (order-in sheet) (tasks-of sheet) (script-for sheet script) (ticks-said answer) u (getD after u 0)
   -- the bytes behind are as they were
   pub same-length : length after ≡ length before
   pub same-behind : drop (ticks-said answer) after ≡ drop (ticks-said answer) before

@@ -6,8 +6,9 @@ ghost use Rattle.sheet.specs.Tasks.{task-in};
 ghost use Rattle.sheet.specs.Reading.{policy-of, tasks-of};
 ghost use Rattle.signed.specs.Calls.{ReadList, ReadListC, WriteList, WriteListC, AnalyseList, AnalyseListC};
 ghost use Rattle.signed.specs.Claims.{in-numbers, in-bytes, Signed, OutcomeSigned};
-ghost use Rattle.signed.specs.Numbers.{said-by, written-by, decision-by, played-by};
+ghost use Rattle.signed.specs.Numbers.{said-by, written-by, decision-by, played-by, worst-by};
 ghost use Rattle.signed.specs.Plays.{PlaySigned, TraceSigned};
+ghost use Rattle.signed.specs.WorstRuns.{WorstSigned};
 ghost use Rattle.signed.specs.Reports.{words-in, said-in, text-in, ReportSigned, ReportLeft};
 use analysis::Decision;
 use lists::ListRead;
@@ -17,6 +18,7 @@ use sheet::Sheet;
 use sheet::Task;
 use sheet::TaskSet;
 use sheet::Written;
+use worst::Worst;
 
 fn analyse_set(
     policy: u32,
@@ -128,4 +130,16 @@ fn trace_from_c(sheet: &[u8], script: &[u8], ticks: &mut [u8]) -> u64
     ensures { λ r. ⌜ TraceSigned (now (sheet .entry)) (now (script .entry)) (now (ticks .entry)) (played-by r) (now (ticks .exit)) ⌝ }
 {
     workbench::burrbeech_trace(sheet, script, ticks)
+}
+
+fn worst_run(sheet: &[u8], script: &mut [u8]) -> Worst
+    ensures { λ r. ⌜ WorstSigned (now (sheet .entry)) (now (script .entry)) r (now (script .exit)) ⌝ }
+{
+    worst::worst_run(sheet, script)
+}
+
+fn worst_run_from_c(sheet: &[u8], script: &mut [u8]) -> u64
+    ensures { λ r. ⌜ WorstSigned (now (sheet .entry)) (now (script .entry)) (worst-by r) (now (script .exit)) ⌝ }
+{
+    workbench::burrbeech_worst_run(sheet, script)
 }

@@ -1,10 +1,17 @@
 -- `play_refused_number` meets its contract.
 use mathlib.Core.Path.{sym, ap, _∙_}
 use native.Mathlib.Omega.{arith}
+use Rattle.player.specs.Refusals.{play-number-of}
 use Rattle.workbench.specs.Numbers.{play-refused-number}
 use borrow.Author.Needs.{needs}
 use Rattle.workbench.proofs.play_refused_number.Statement.{statement}
 use Rattle.workbench.proofs.play_refused_number.Tie as tie
+
+number-requires : tie.Need-number-requires
+number-requires c κs = search needs
+
+cast-number : tie.Need-cast-number
+cast-number c = search needs
 
 enum-known-why : tie.Need-enum-known-why
 enum-known-why c = search needs
@@ -34,12 +41,16 @@ returns-2 : tie.Need-returns-2
 returns-2 c = search needs
 
 returns-3 : tie.Need-returns-3
-returns-3 c = sym (ap play-refused-number (c .before .why2 .given .1))
+returns-3 c =
+    let item = c .before .why2 .given .1 in
+    omega (arith, c .before .before .before .number .ensures, ap play-number-of item, ap play-refused-number item)
 
 pub play-refused-number-spec : {M : Type 1} → statement M
 play-refused-number-spec =
     tie.close
     (tie.spec
+    number-requires
+    cast-number
     enum-known-why
     refused-number-requires
     enum-told
