@@ -12,7 +12,7 @@ use Rattle.analysis.specs.Times.{number-at}
 use Rattle.plays.specs.Script.{Script}
 use Rattle.plays.specs.ScriptRun.{by-place, stretch-at, new-stretch, choice, script-state, script-run}
 use Rattle.plays.specs.Play.{script-seen, shown-stretch, shown-task, shown}
-use Rattle.plays.specs.Says.{stretch-in, TickSays, idle as is-idle, unlocked, locked}
+use Rattle.plays.specs.Says.{stretch-length, TickSays, idle as is-idle, unlocked, locked}
 use Rattle.plays.proofs.States.{run-seen}
 
 module _ (order : List ℕ) (tasks : List Task) (sc : Script) (n u : ℕ) where
@@ -25,7 +25,7 @@ module _ (order : List ℕ) (tasks : List Task) (sc : Script) (n u : ℕ) where
   abbrev length-now : ℕ
   length-now = stretch-now (seen .to-come) (new-stretch order sc seen at)
 
-  same-stretch : stretch-in order tasks sc n u ≡ length-now
+  same-stretch : stretch-length order tasks sc n u ≡ length-now
   unfolding script-run choice script-seen release
   same-stretch = rw (run-seen order tasks sc n u)
 

@@ -61,13 +61,13 @@ module _ (order : List ℕ) (tasks : List Task) (sc : Script) where
     pub not-before : (u : ℕ) → u < t → Later (sc .entries) u ⊎ WorkLeft u
 
   -- the length of the stretch at tick u of the run of n ticks, 0 for none
-  abbrev pub stretch-in : ℕ → ℕ → ℕ
-  stretch-in n u = let run = script-run order tasks sc n in stretch-now (seen-at (by-place order tasks) run u .to-come) (run .input u .stretch)
+  abbrev pub stretch-length : ℕ → ℕ → ℕ
+  stretch-length n u = let run = script-run order tasks sc n in stretch-now (seen-at (by-place order tasks) run u .to-come) (run .input u .stretch)
 
   -- what a byte says of tick u of the run of n ticks: the tick is idle, or a task has it, or a task has it in a locked stretch
   pub data TickSays (n u : ℕ) : ℕ → Type 0 where
     idle : pick (by-place order tasks) (seen-at (by-place order tasks) (script-run order tasks sc n) u) ≡ none → TickSays n u most-tasks
-    unlocked : (p : ℕ) → pick (by-place order tasks) (seen-at (by-place order tasks) (script-run order tasks sc n) u) ≡ some p → stretch-in n u ≡ 0
+    unlocked : (p : ℕ) → pick (by-place order tasks) (seen-at (by-place order tasks) (script-run order tasks sc n) u) ≡ some p → stretch-length n u ≡ 0
         → TickSays n u (number-at order p)
-    locked : (p m : ℕ) → pick (by-place order tasks) (seen-at (by-place order tasks) (script-run order tasks sc n) u) ≡ some p → stretch-in n u ≡ suc m
+    locked : (p m : ℕ) → pick (by-place order tasks) (seen-at (by-place order tasks) (script-run order tasks sc n) u) ≡ some p → stretch-length n u ≡ suc m
         → TickSays n u (number-at order p + 2 * most-tasks)
