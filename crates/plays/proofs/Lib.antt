@@ -13,6 +13,7 @@ pub mod ScriptLanes
 pub mod Courses
 pub mod ScriptFacts
 pub mod AllDone
+pub mod InTurn
 pub mod Rows
 pub mod SameStates
 pub mod WorstEntries

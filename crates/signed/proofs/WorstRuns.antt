@@ -4,7 +4,7 @@ use mathlib.Core.List.{List, []}
 use mathlib.Core.Logic.{_↔_}
 use mathlib.Core.Option.{Option, none, some}
 use mathlib.Core.Path.{_≡_, refl, sym, ap, _∙_}
-use Prim.Native.Nat.{ℕ, suc, _≤_, _<_}
+use Prim.Native.Nat.{ℕ, suc, _≤_, _<_, zero-le}
 use native.Mathlib.Decide.{decLt}
 use native.Mathlib.Omega.{arith}
 use lib.Dec.{lit≤}
@@ -39,10 +39,10 @@ use Rattle.player.proofs.Turned.{nothing-turns}
 use Rattle.player.proofs.Ways.{played-ends}
 use Rattle.workbench.specs.Numbers.{worst-number}
 use Rattle.workbench.proofs.Small.{NamesBelow, names-more, room-names, sheet-names}
-use Rattle.worst.specs.Writing.{worst-bytes, worst-says, writing-by, worst-writing, worst-answer, worst-left}
+use Rattle.worst.specs.Writing.{worst-bytes, most-bytes, worst-says, writing-by, worst-writing, worst-answer, worst-left}
 use Rattle.worst.specs.declared.Worst.{Worst}
 use Rattle.worst.specs.declared.Worst.the-variants.{Holds, Written, TurnedAway}
-use Rattle.worst.proofs.Shown.{worst-made, worst-reads-back, worst-kept, worst-is, worst-ends}
+use Rattle.worst.proofs.Shown.{worst-made, worst-reads-back, worst-kept, worst-is, worst-ends, worst-bytes-few}
 use Rattle.signed.specs.Calls.{WorstRun, WorstRunC}
 use Rattle.signed.specs.Claims.{Damaged}
 use Rattle.signed.specs.Numbers.{worst-by}
@@ -155,6 +155,17 @@ module _ (s : List ℕ) where
       go Nothing e = absurd (q e)
       go (Frame p k) e =
           rw e (omega (arith, length-sealed (script-bits (worst-script (priority-order (policy-of s) (tasks-of s)) (tasks-of s) p k))))
+
+  -- and never more than so many
+  due-few : first-refusal (sheet-checks s) ≡ none → length (script-due s) ≤ most-bytes
+  unfolding worst-bytes
+  due-few checked = go (miss-in (set-of s)) refl
+    where
+      go : (m : Miss) → miss-in (set-of s) ≡ m → length (script-due s) ≤ most-bytes
+      go Nothing e = rw e zero-le
+      go (Frame p k) e =
+          let reads = admitted-is s .0 checked in
+          rw e (worst-bytes-few (policy-of s) (tasks-of s) (by-reading s reads) (admitted-sheet-is-admitted s reads) p k e)
 
 laid-nothing : (memory : List ℕ) → laid [] memory ≡ memory
 unfolding laid
@@ -338,6 +349,13 @@ worst-run-c-says sheet before after number c = record { answers = ap worst-by (c
 -- `burrbeech_worst_run`
 pub worst-run-c-signed : (sheet before after : List ℕ) (number : ℕ) → WorstRunC sheet before number after → WorstSigned sheet before (worst-by number) after
 worst-run-c-signed sheet before after number c = worst-run-signed sheet before after (worst-by number) (worst-run-c-says sheet before after number c)
+
+-- Lent bytes of this number are never too few, whatever the sheet.
+pub worst-run-room : (sheet before after : List ℕ) (answer : Worst) → WorstRun sheet before answer after → most-bytes ≤ length before → ¬ (answer ≡ TurnedAway Room)
+worst-run-room sheet before after answer c h e =
+    let (admitted, short) = worst-run-signed sheet before after answer c .no-room .0 e in
+    let most = due-few sheet (admitted-is sheet .1 admitted) in
+    omega arith
 
 -- ---- For the same input a second conforming call answers and leaves the same
 

@@ -29,6 +29,7 @@ pub use Rattle.theory.proofs.Response.{Monotone, rounds-grow, rounds-be
 pub use Rattle.theory.proofs.Response.{MoreBelow, more-below-start, more-below-round, more-below-is, more-below-none}
 pub use Rattle.theory.proofs.Verdict.{rounds-of-reach, rounds-of-pass}
 -- the verdict; and that nothing depends on the order of the tasks above and below
+pub use Rattle.theory.proofs.Releases.{releases-few}
 pub use Rattle.theory.proofs.Verdict.{verdict-holds, IsMissed, verdict-missed}
 pub use Rattle.theory.proofs.Order.{SamePlace, blocking-order, demand-of-same, response-of-same, passes-same}
 -- within a task the tick goes to the oldest job

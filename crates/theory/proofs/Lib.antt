@@ -7,6 +7,7 @@ pub mod Response
 pub mod Places
 pub mod Blocking
 pub mod Verdict
+pub mod Releases
 pub mod Order
 pub mod Tests
 pub mod Lanes

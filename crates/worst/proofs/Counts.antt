@@ -6,6 +6,7 @@ use native.Mathlib.Decide.{decLe, ℕ-discrete}
 use native.Mathlib.Numerals.{add-one}
 use native.Mathlib.Omega.{arith}
 use lib.ListN.{length, length-append}
+use Rattle.theory.proofs.Places.{sum-below}
 use Rattle.sheet.specs.Constants.{greatest-time}
 use Rattle.analysis.specs.Findings.{in-turn}
 use Rattle.plays.specs.WorstScript.{entry-row}
@@ -13,7 +14,7 @@ use Rattle.plays.specs.declared.Entry.{Entry}
 use Rattle.worst.specs.declared.Plan.{Plan}
 use Rattle.worst.specs.Inside.Plans.{work-with, releases-to, SoundTurn, plan-turn, plan-task, SoundPlan, plan-row, tick-row, plan-entries, count-to}
 use Rattle.worst.proofs.Releases.{tick-of, release-at, Reached, reached-none, reached-later, reached-more, quiet, counted}
-use Rattle.worst.proofs.Rows.{turn-zero, turn-more, turn-quiet, turn-parts}
+use Rattle.plays.proofs.InTurn.{turn-zero, turn-more, turn-sum}
 
 -- the entry of release c of task i
 abbrev pub release-entry : Plan → ℕ → ℕ → Entry
@@ -80,20 +81,15 @@ module _ (pl : Plan) (sound : SoundPlan pl) where
   count-small zero h = zero-le
   count-small (suc n) h = omega (arith, count-small n (omega arith), few-releases pl n (sound .each n h), sound .end-fits)
 
-  tasks-counted : (n : ℕ) → n ≤ pl .count → length (in-turn (λ t. in-turn (plan-row pl t) 0 n) 0 (suc (pl .end))) ≡ count-to pl n
-  unfolding count-to
-  tasks-counted zero h =
-      ap length
-      (sym (turn-quiet (λ t. in-turn (plan-row pl t) 0 0) 0 (suc (pl .end)) zero-le (λ j _ _. turn-zero (plan-row pl j)))
-      ∙ turn-zero (λ t. in-turn (plan-row pl t) 0 0))
-  tasks-counted (suc n) h =
-      turn-parts (λ t. in-turn (plan-row pl t) 0 (suc n)) (λ t. in-turn (plan-row pl t) 0 n) (λ t. plan-row pl t n) (λ t. turn-more (plan-row pl t) n) (suc (pl .end))
-      ∙ ap₂ _+_ (tasks-counted n (omega arith)) (task-counted pl n (sound .each n h))
+  tasks-counted : (n : ℕ) → n ≤ pl .count → sum-below n (λ i. length (in-turn (λ t. plan-row pl t i) 0 (suc (pl .end)))) ≡ count-to pl n
+  unfolding count-to sum-below
+  tasks-counted zero h = refl
+  tasks-counted (suc n) h = ap₂ _+_ (tasks-counted n (omega arith)) (task-counted pl n (sound .each n h))
 
   -- all entries
   pub all-counted : (n : ℕ) → n ≡ pl .count → count-to pl n ≡ length (plan-entries pl)
   unfolding plan-entries tick-row
-  all-counted n e = ap (count-to pl) e ∙ sym (tasks-counted (pl .count) (omega arith))
+  all-counted n e = ap (count-to pl) e ∙ sym (turn-sum (plan-row pl) (pl .count) (suc (pl .end)) ∙ tasks-counted (pl .count) (omega arith))
 
   -- the entries are fewer than their field can count
   pub entries-few : length (plan-entries pl) ≤ 16 * greatest-time

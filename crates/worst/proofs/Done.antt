@@ -9,7 +9,7 @@ use Rattle.analysis.specs.Findings.{in-turn}
 use Rattle.plays.specs.declared.Entry.{Entry}
 use Rattle.worst.specs.declared.Plan.{Plan}
 use Rattle.worst.specs.Inside.Plans.{plan-row, tick-row, plan-entries}
-use Rattle.worst.proofs.Rows.{turn-zero, turn-more, turn-quiet, turn-part}
+use Rattle.plays.proofs.InTurn.{turn-zero, turn-more, turn-quiet, turn-part}
 
 module _ (pl : Plan) where
   -- the entries before task j of tick t

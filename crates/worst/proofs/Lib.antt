@@ -1,6 +1,5 @@
 -- The laws behind the worst run written, from the releases of one task to the outcomes of the call.
 pub mod Releases
-pub mod Rows
 pub mod Frames
 pub mod Next
 pub mod Counts

@@ -3,7 +3,7 @@ use mathlib.Core.Bool.{true}
 use mathlib.Core.List.{List, List·Memᴰ}
 use mathlib.Core.Option.{none, some}
 use mathlib.Core.Path.{_≡_, refl, ap}
-use Prim.Native.Nat.{ℕ, zero, suc, _^_, _≤_, _<_}
+use Prim.Native.Nat.{ℕ, zero, suc, _+_, _≤_, _<_}
 use native.Mathlib.Nat.{zero-add, le-trans}
 use native.Mathlib.Omega.{arith}
 use lib.ListN.{length}
@@ -12,7 +12,7 @@ use Rattle.theory.specs.Tasks.{Task, task-at, frame-count, deadline-of, Admitte
 use Rattle.theory.specs.Analysis.{FirstWithout, blocker}
 use Rattle.theory.specs.WorstRun.{worst-run}
 use Rattle.theory.proofs.Laws.{IsMissed, verdict-missed, frame-in-period}
-use Rattle.sheet.specs.Constants.{most-frames, greatest-time}
+use Rattle.sheet.specs.Constants.{most-tasks, most-frames, greatest-time}
 use Rattle.sheet.proofs.Carried.{Carried, carried-fit}
 use Rattle.sheet.proofs.InFields.{InFields}
 use Rattle.sheet.proofs.Analysable.{each-at}
@@ -44,6 +44,7 @@ use Rattle.scripts.specs.Reading.{script-in, well-made}
 use Rattle.scripts.specs.Writing.{script-bits, script-of, EntryFits, Fits}
 use Rattle.scripts.proofs.RoundTrip.{script-reads-back, script-is-well-made, script-long}
 use Rattle.scripts.proofs.Widths.{width-is}
+use Rattle.worst.specs.Writing.{most-bytes}
 
 firsts-long : (order : List ℕ) (tasks : List Task) (p k i n : ℕ) → length (worst-firsts order tasks p k i n) ≡ n
 unfolding worst-firsts
@@ -108,6 +109,11 @@ module _ (policy : ℕ) (tasks : List Task) (carried : Carried policy tasks) (ad
         lock-fits = omega (arith, s .lock-fits, f .lock-fits);
       }
 
+  -- it has few entries, since the tasks above the named one pass
+  few : length (sc .entries) ≤ D + length tasks
+  unfolding ordered-set
+  few = worst-few order tasks (order-permutes policy tasks) (ordered-admitted policy tasks admitted) p k in-set (names .0 .earlier-pass)
+
   -- its numbers fit their fields
   fits : Fits (length tasks) sc
   unfolding worst-script ordered-set
@@ -118,7 +124,7 @@ module _ (policy : ℕ) (tasks : List Task) (carried : Carried policy tasks) (ad
             λ i h.
             let first = firsts-fit tasks 0 (sc .firsts) (firsts-and-entries tasks sc kept .0) i (omega (arith, firsts-long order tasks p k 0 (length tasks))) in
             omega (arith, rw (zero-add i) at first, few-frames i h);
-        few-entries = worst-few order tasks (order-permutes policy tasks) (carried .few-tasks) p k in-set in-time;
+        few-entries = omega (arith, few, in-time, carried .few-tasks);
         entries-fit = λ j h. entry-fits _ (member-at (sc .entries) j h);
       }
 
@@ -148,10 +154,14 @@ module _ (policy : ℕ) (tasks : List Task) (carried : Carried policy tasks) (ad
   worst-ends =
       worst-play order tasks (order-permutes policy tasks) (ordered-admitted policy tasks admitted) p in-set k k-in (blocker set p) (verdict-missed set .1 (names .0)) (names .1) in-time
 
-  -- How many bytes there are.
-  pub worst-bytes-few : length (script-of (worst-script (priority-order policy tasks) tasks p k)) < 2 ^ 28
-  unfolding script-of ordered-set
+  -- How many bytes there are at the most.
+  pub worst-bytes-few : length (script-of (worst-script (priority-order policy tasks) tasks p k)) ≤ most-bytes
+  unfolding script-of
   worst-bytes-few =
       let n = length tasks in
       let m = length (sc .entries) in
-      omega (arith, length-sealed (script-bits sc), script-long n sc fits, width-is n m, worst-few order tasks (order-permutes policy tasks) (carried .few-tasks) p k in-set in-time, carried .few-tasks)
+      omega (arith, length-sealed (script-bits sc), script-long n sc fits, width-is n m, width-is most-tasks (greatest-time + most-tasks), few, in-time, carried .few-tasks)
+
+-- The number of bytes that docs and header give.
+pub most-bytes-are : most-bytes ≡ 8388741
+most-bytes-are = omega (arith, width-is most-tasks (greatest-time + most-tasks))

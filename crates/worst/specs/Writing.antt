@@ -1,10 +1,12 @@
 -- SCOPE.md, "The worst run written": of a set that is missed, the worst run of the named task's first frame without a response time, as a run script.
 use mathlib.Core.List.{List, []}
-use Prim.Native.Nat.{ℕ}
+use Prim.Native.Nat.{ℕ, _+_}
 use lib.ListN.{length}
 use Rattle.theory.specs.Tasks.{Task}
 use Rattle.lent.specs.Checks.{Check}
 use Rattle.lent.specs.Lent.{Call, answered, left-after}
+use Rattle.records.specs.Sealed.{sealed-size}
+use Rattle.sheet.specs.Constants.{most-tasks, greatest-time}
 use Rattle.sheet.specs.Reading.{sheet-checks, policy-of, tasks-of}
 use Rattle.sheet.specs.declared.Refusal.{Refusal}
 use Rattle.sheet.specs.declared.Refusal.the-variants.{Room}
@@ -13,6 +15,7 @@ use Rattle.analysis.specs.Misses.{miss-in}
 use Rattle.analysis.specs.declared.Miss.{Miss}
 use Rattle.analysis.specs.declared.Miss.the-variants.{Nothing, Frame}
 use Rattle.plays.specs.WorstScript.{worst-script}
+use Rattle.scripts.specs.Format.{script-width}
 use Rattle.scripts.specs.Writing.{script-of}
 use Rattle.worst.specs.declared.Worst.{Worst}
 use Rattle.worst.specs.declared.Worst.the-variants.{Holds, Written, TurnedAway}
@@ -21,6 +24,10 @@ use Rattle.worst.specs.declared.Worst.the-variants.{Holds, Written, Turn
 unfoldable pub worst-bytes : ℕ → List Task → Miss → List ℕ
 worst-bytes policy tasks Nothing = []
 worst-bytes policy tasks (Frame p k) = script-of (worst-script (priority-order policy tasks) tasks p k)
+
+-- so many bytes hold the worst run of every set: of sixteen tasks, an entry for each tick up to the greatest time, and one more for each task
+abbrev pub most-bytes : ℕ
+most-bytes = sealed-size (script-width most-tasks (greatest-time + most-tasks))
 
 -- that the set holds, or how many bytes were written
 unfoldable pub worst-says : ℕ → List Task → Miss → Worst

@@ -1,10 +1,12 @@
--- Rows in turn from the front: one more, none between, and how many there are.
+-- Rows in turn from the front: one more, none between, and how many elements they have.
 use mathlib.Core.List.{List, [], _++_, append-nil, append-assoc}
 use mathlib.Core.Path.{_≡_, refl, sym, ap, ap₂, _∙_}
-use Prim.Native.Nat.{ℕ, zero, suc, _+_, _-_, _≤_, _<_}
+use Prim.Native.Nat.{ℕ, zero, suc, _+_, _-_, _≤_, _<_, zero-le}
+use native.Mathlib.Decide.{decLe}
 use native.Mathlib.Nat.{add-zero, zero-add, add-suc, suc-add}
 use native.Mathlib.Omega.{arith}
 use lib.ListN.{length, length-append}
+use Rattle.theory.proofs.Places.{sum-below}
 use Rattle.analysis.specs.Findings.{in-turn}
 
 module _ {A : Type 0} (row : ℕ → List A) where
@@ -64,3 +66,26 @@ turn-parts row one two h (suc m) =
       length-append (one m) (two m),
     )
     (omega (arith, turn-parts row one two h m))
+
+-- rows of rows: so many as all first rows have, and all second ones, and so on
+pub turn-sum : {A : Type 0} (row : ℕ → ℕ → List A) (n m : ℕ)
+    → length (in-turn (λ t. in-turn (row t) 0 n) 0 m) ≡ sum-below n (λ i. length (in-turn (λ t. row t i) 0 m))
+unfolding sum-below
+turn-sum row zero m =
+    ap length (sym (turn-quiet (λ t. in-turn (row t) 0 0) 0 m zero-le (λ j _ _. turn-zero (row j))) ∙ turn-zero (λ t. in-turn (row t) 0 0))
+turn-sum row (suc n) m =
+    turn-parts (λ t. in-turn (row t) 0 (suc n)) (λ t. in-turn (row t) 0 n) (λ t. row t n) (λ t. turn-more (row t) n) m
+    ∙ ap (λ x. x + length (in-turn (λ t. row t n) 0 m)) (turn-sum row n m)
+
+-- all rows but one are empty
+pub turn-one : {A : Type 0} (row : ℕ → List A) (at : ℕ) → ((u : ℕ) → (u ≡ at → ⊥) → row u ≡ []) → length (row at) ≤ 1 → (m : ℕ) → length (in-turn row 0 m) ≤ 1
+turn-one row at others one m = go (decLe m at)
+  where
+    before : (n : ℕ) → n ≤ at → length (in-turn row 0 n) ≡ 0
+    before n h = ap length (sym (turn-quiet row 0 n zero-le (λ j _ l. others j (λ e. omega arith))) ∙ turn-zero row)
+
+    go : Dec (m ≤ at) → length (in-turn row 0 m) ≤ 1
+    go (yes h) = omega (arith, before m h)
+    go (no h) =
+        rw (← turn-quiet row (suc at) m (omega arith) (λ j l _. others j (λ e. omega arith)), turn-more row at, length-append (in-turn row 0 at) (row at))
+        (omega (arith, before at (omega arith)))
