@@ -353,7 +353,7 @@ worst-run-c-signed sheet before after number c = worst-run-signed sheet before a
 -- Lent bytes of this number are never too few, whatever the sheet.
 pub worst-run-room : (sheet before after : List ℕ) (answer : Worst) → WorstRun sheet before answer after → most-bytes ≤ length before → ¬ (answer ≡ TurnedAway Room)
 worst-run-room sheet before after answer c h e =
-    let (admitted, short) = worst-run-signed sheet before after answer c .no-room .0 e in
+    let (admitted, fewer) = worst-run-signed sheet before after answer c .no-room .0 e in
     let most = due-few sheet (admitted-is sheet .1 admitted) in
     omega arith
 

@@ -69,7 +69,7 @@ use Rattle.analysis.specs.declared.Miss.the-variants.{Nothing, Frame}
 use Rattle.worst.specs.Writing.{worst-bytes, worst-says, writing-by, worst-writing, worst-answer}
 use Rattle.worst.specs.declared.Worst.{Worst}
 use Rattle.worst.specs.declared.Worst.the-variants.{TurnedAway as no-worst}
-use Rattle.worst.proofs.Shown.{worst-bytes-few}
+use Rattle.worst.proofs.Shown.{worst-bytes-few, most-bytes-are}
 
 -- ---- what refusals name
 
@@ -270,7 +270,7 @@ module _ (s room : List ℕ) where
   says-small a Nothing e = lit< tt
   says-small a (Frame p k) e =
       let admits-it = answer-read s ∙ a in
-      omega (arith, worst-bytes-few (policy-of s) (tasks-of s) (by-reading s admits-it) (admitted-sheet-is-admitted s admits-it) p k e)
+      omega (arith, most-bytes-are, worst-bytes-few (policy-of s) (tasks-of s) (by-reading s admits-it) (admitted-sheet-is-admitted s admits-it) p k e)
 
   pub worst-small : worst-number (worst-answer s room) < 2 ^ 64
   unfolding worst-answer worst-writing writing-by
