@@ -87,7 +87,7 @@ module _ (t : Task) where
   unfolding exceeded frame-count of-frames
   exceeded-of-frames s = ap (λ (q : ℕ → Bool). first 1 (frame-count t) q) (fun-ext (λ n. ap found (exceeding-of-frames s n)))
 
-  largest-of-frames : largest-frame (of-frames (t .frames)) ≡ largest-frame t
+  pub largest-of-frames : largest-frame (of-frames (t .frames)) ≡ largest-frame t
   unfolding largest-frame frame frame-count of-frames
   largest-of-frames = refl
 

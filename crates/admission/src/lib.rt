@@ -116,7 +116,7 @@ fn largest(frames: &[u32; Sheet::FRAME_ROOM], count: usize) -> u32
 }
 
 // The lowest-numbered largest frame; 0 where there is no frame.
-fn largest_frame(frames: &[u32; Sheet::FRAME_ROOM], count: usize) -> usize
+fn first_largest(frames: &[u32; Sheet::FRAME_ROOM], count: usize) -> usize
     requires { ⌜ (length (now frames) ≡ most-frames) × (count ≤ most-frames) ⌝ }
     ensures { λ r. ⌜ r ≡ largest-frame (of-frames (take count (now (frames .entry)))) ⌝ }
 {
@@ -162,7 +162,7 @@ fn reason(frames: &[u32; Sheet::FRAME_ROOM], count: usize) -> Reason
     requires { ⌜ (length (now frames) ≡ most-frames) × (count ≤ most-frames) ⌝ }
     ensures { λ r. ⌜ r ≡ reason-of (of-frames (take count (now (frames .entry)))) ⌝ }
 {
-    let frame = largest_frame(frames, count);
+    let frame = first_largest(frames, count);
     for n in 1..count + 1 {
         let other = exceeding(frames, count, frame, n);
         if other < count {
@@ -246,6 +246,15 @@ fn largest_time(task: Task) -> u32
     let frames = task.frames;
     let count = sheet::in_use(task.frame_count as usize, Sheet::FRAME_ROOM);
     largest(&frames, count)
+}
+
+// The lowest-numbered largest frame of a task; 0 where it has none.
+pub fn largest_frame(task: Task) -> u32
+    ensures { λ r. ⌜ r ≡ largest-frame (task-in task) ⌝ }
+{
+    let frames = task.frames;
+    let count = sheet::in_use(task.frame_count as usize, Sheet::FRAME_ROOM);
+    first_largest(&frames, count) as u32
 }
 
 // 9, 10, 11 of one task.

@@ -14,7 +14,7 @@ use Rattle.theory.specs.Analysis.{Higher, lower, blocking, higher, demand, resp
 use Rattle.theory.proofs.Laws.{largest-is, frame-le-largest}
 use Rattle.sheet.specs.Constants.{most-frames}
 use Rattle.sheet.specs.Tasks.{task-in}
-use Rattle.sheet.proofs.Records.{frames-used}
+use Rattle.sheet.proofs.Records.{frames-used, frames-counted}
 use Rattle.sheet.specs.declared.Task.{Task as Record}
 use Rattle.analysis.specs.Inside.Response.{answer, response-to}
 use Rattle.analysis.specs.declared.response.Response.the-variants.{At, Never}
@@ -54,11 +54,6 @@ module _ (set : List Task) (p : ℕ) where
       ≡ finding-with (number-at order p) (blocking (lower set p)) (task-at set p) pass (slots-by pass (map (λ c. Option·getD (time c) 0) (task-at set p .frames)))
   unfolding finding-at finding-with slots-of frame-count
   finding-by order h = rw (passes-by h, times-by 0 (frame-count (task-at set p)) (omega arith))
-
--- the count of frames in use is the task's
-pub frames-counted : (r : Record) (n : ℕ) → (n ≡ min (r .«frame_count») most-frames) × (length (r .frames) ≡ most-frames) → n ≡ frame-count (task-in r)
-unfolding frame-count task-in
-frames-counted r n used = used .0 ∙ sym (length-take (r .«frame_count») (r .frames) ∙ ap (min (r .«frame_count»)) (used .1))
 
 -- every frame of a well-formed task takes a tick or more, and so does the largest
 pub frame-counts : (r : Record) (n k : ℕ) → (n ≡ min (r .«frame_count») most-frames) × (length (r .frames) ≡ most-frames) → WellFormed (task-in r) → k < n

@@ -3,26 +3,23 @@ use mathlib.Core.Bool.{Bool, true, false, not}
 use mathlib.Core.List.{List}
 use mathlib.Core.Option.{Option, Option·getD}
 use mathlib.Core.Path.{_≡_, refl, sym, ap, subst, _∙_}
-use Prim.Native.Nat.{ℕ, _+_, _≤_, _<_, zero-le, min}
+use Prim.Native.Nat.{ℕ, _+_, _≤_, _<_, zero-le}
 use native.Mathlib.Decide.{ℕ-discrete}
 use native.Mathlib.Omega.{arith}
-use lib.ListN.{length, getD}
-use lib.Seq.{getD-take}
+use lib.ListN.{length}
 use Rattle.theory.specs.First.{first, found}
 use Rattle.theory.specs.Tasks.{Task, task-at, frame-count, frame, largest, deadline-of, shortest-deadline}
 use Rattle.theory.specs.Analysis.{Higher, lower, blocking, blocker, higher, response-of, passes, FirstWithout}
 use Rattle.theory.proofs.Search.{Answer, answer, nothing, it-is, IsFirst, first-some, first-none, first-is, first-is-none, some-found, none-found}
 use Rattle.theory.proofs.Verdict.{fails-first, IsMissed, Way, way, all-pass, one-fails, verdict-holds, verdict-missed}
-use Rattle.sheet.specs.Constants.{most-frames}
 use Rattle.sheet.specs.Tasks.{task-in}
-use Rattle.sheet.proofs.Records.{frames-used}
 use Rattle.sheet.specs.declared.Task.{Task as Record}
 use Rattle.analysis.specs.Misses.{first-without, miss-by, miss-in}
 use Rattle.analysis.specs.Inside.Response.{response-to}
 use Rattle.analysis.specs.Inside.Response.{answer as answer-to}
 use Rattle.analysis.specs.Inside.Steps.{is-there, passes-to, without-to}
 use Rattle.analysis.specs.declared.Miss.the-variants.{Nothing, Frame}
-use Rattle.analysis.proofs.ByPlace.{frame-in, frames-counted, time, response-by, passes-by, there-answer}
+use Rattle.analysis.proofs.ByPlace.{time, response-by, passes-by, there-answer}
 use Rattle.analysis.proofs.Passed.{Passed}
 
 -- a frame is without
@@ -123,14 +120,6 @@ module _ (above : List Higher) (blocked : ℕ) (r : Record) where
   pub all-have : (k : ℕ) → AllHave k → frame-count (task-in r) ≤ k → 0 ≡ without-to above blocked r
   unfolding AllHave without-to
   all-have k a h = sym (ap (λ (o : Option ℕ). Option·getD o 0) (first-is-none 0 (frame-count (task-in r)) without (λ u _ l. a u (omega arith))))
-
--- the frame of a record in use, and its deadline
-pub frame-there : (r : Record) (n k : ℕ) → (n ≡ min (r .«frame_count») most-frames) × (length (r .frames) ≡ most-frames) → k < n
-    → getD (r .frames) k 0 ≡ frame (task-in r) k
-frame-there r n k used h =
-    sym (getD-take n (r .frames) k 0 h)
-    ∙ ap (λ (l : List ℕ). getD l k 0) (frames-used r n used)
-    ∙ sym (frame-in (task-in r) k (omega (arith, frames-counted r n used)))
 
 -- ---- place by place
 

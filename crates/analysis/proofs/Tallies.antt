@@ -14,12 +14,11 @@ use Rattle.theory.proofs.Laws.{work-zero, whole-round, whole-rounds, releases-i
 use Rattle.sheet.specs.Constants.{most-frames}
 use Rattle.sheet.specs.Tasks.{task-in, next-round}
 use Rattle.sheet.specs.declared.Task.{Task as Record}
-use Rattle.sheet.proofs.Records.{frames-used}
+use Rattle.sheet.proofs.Records.{frames-used, frames-counted}
 use Rattle.admission.specs.Inside.Frames.{of-frames}
 use Rattle.admission.proofs.Starts.{work-of-frames}
 use Rattle.admission.proofs.Sums.{Summed, summed-none, summed-more}
 use Rattle.analysis.specs.Inside.Demand.{counted-from, TallyOf, Counted, released, no-higher, Tallies}
-use Rattle.analysis.proofs.ByPlace.{frames-counted}
 
 -- ---- a tally
 

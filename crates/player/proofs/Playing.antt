@@ -35,7 +35,7 @@ use Rattle.player.proofs.Moments.{Releasing, starts, releases-start, re
 -- ---- the next entry
 
 module _ (s : List ℕ) (cast : Cast) (j : ℕ) where
-  pub upcoming-there : j < cast .entries → entry-at s (cast .count) j ≡ upcoming s cast j
+  pub upcoming-there : j < cast .entries → entry-at (cast .count) s j ≡ upcoming s cast j
   unfolding upcoming
   upcoming-there h = rw (lt-ltb j (cast .entries) h)
 

@@ -20,7 +20,7 @@ use Rattle.plays.specs.Items.{item-checks}
 use Rattle.plays.specs.ScriptRun.{work-of, lock-of, released-at, script-state}
 use Rattle.plays.specs.Play.{script-seen}
 use Rattle.plays.specs.declared.Entry.{Entry}
-use Rattle.plays.proofs.Courses.{entry-is}
+use Rattle.plays.proofs.Ledgers.{entry-is}
 use Rattle.plays.proofs.ScriptLegal.{entries-in-order}
 use Rattle.plays.proofs.ScriptFacts.{member-at, NoneAt, none-yet, none-more, entry-in-set, now-there, others-stay}
 use Rattle.plays.proofs.ScriptLanes.{task-of-number, seen-by-release}

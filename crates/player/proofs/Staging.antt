@@ -66,7 +66,7 @@ module _ (records : List Record) (room : length records ≡ most-tasks) (memory 
 
 -- ---- the cast
 
-pub cast-is : (set : TaskSet) (bytes : List ℕ) (o : Ordered) (entries : ℕ) (deadlines : List ℕ) → o ≡ ordered set → entries ≡ entry-count bytes (o .count)
+pub cast-is : (set : TaskSet) (bytes : List ℕ) (o : Ordered) (entries : ℕ) (deadlines : List ℕ) → o ≡ ordered set → entries ≡ entry-count (o .count) bytes
     → deadlines ≡ deadlines-in (set .tasks)
     → _≡_ {A = Cast} (record { count = o .count; entries = entries; order = o .numbers; deadlines = deadlines }) (cast-for set bytes)
 unfolding cast-for ordered

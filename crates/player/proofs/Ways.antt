@@ -169,7 +169,7 @@ module _ (sheet bytes : List ℕ) where
 
     entries-are : cast .entries ≡ length (sc .entries)
     unfolding cast-for
-    entries-are = ap (entry-count bytes) count-is ∙ count-of-entries n bytes (playing .made)
+    entries-are = ap (λ m. entry-count m bytes) count-is ∙ count-of-entries n bytes (playing .made)
 
     fits : Fits n sc
     fits = numbers-fit n bytes
@@ -215,7 +215,7 @@ module _ (sheet bytes : List ℕ) where
           ready = rw played-order ready;
           count-is = count-is;
           entries-are = entries-are;
-          entry-is = λ j h. ap (λ m. entry-at bytes m j) count-is ∙ entry-is n bytes (playing .made) j h;
+          entry-is = λ j h. ap (λ m. entry-at m bytes j) count-is ∙ entry-is n bytes (playing .made) j h;
           due-in = its-deadlines;
         }
 

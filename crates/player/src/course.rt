@@ -18,10 +18,10 @@ pub struct Cast {
 }
 
 // How far a play has come: the state, how many entries were released, and the next one.
-pub struct Progress {
-    pub player: Player,
-    pub released: u32,
-    pub next: Entry,
+struct Progress {
+    player: Player,
+    released: u32,
+    next: Entry,
 }
 
 // How a play ended: the moment, and the task that misses (16: none, all jobs are done).
@@ -52,7 +52,7 @@ fn upcoming(script: &[u8], cast: Cast, j: u32) -> Entry
 }
 
 // Before the first tick.
-pub fn start(script: &[u8], cast: Cast) -> Progress
+fn start(script: &[u8], cast: Cast) -> Progress
     requires { ⌜ Stage (now script) cast ⌝ }
     ensures { λ r. ⌜ ((stage : Stage (now (script .entry)) cast) → Going stage 0 r) ⌝ }
 {
@@ -103,7 +103,7 @@ fn picked(cast: Cast, at: Progress) -> Progress
 }
 
 // The releases of a tick are seen, and the task that has the tick is picked.
-pub fn seen(script: &[u8], cast: Cast, at: Progress, moment: u32) -> Progress
+fn seen(script: &[u8], cast: Cast, at: Progress, moment: u32) -> Progress
     requires { ⌜ Calmly (now script) cast moment at ⌝ }
     ensures { λ r. ⌜ ((on : Calmly (now (script .entry)) cast moment at) → Chosen (on .stage) moment r) ⌝ }
 {
@@ -116,7 +116,7 @@ pub fn seen(script: &[u8], cast: Cast, at: Progress, moment: u32) -> Progress
 }
 
 // The tick is given.
-pub fn ticked(at: Progress) -> Progress
+fn ticked(at: Progress) -> Progress
     ensures { λ r. ⌜ r ≡ after-tick at ⌝ }
 {
     let player = at.player;
@@ -163,6 +163,7 @@ pub fn play_on(script: &[u8], cast: Cast) -> End
         at = ticked(then);
         moment += 1;
     }
+    // never reached: every play has ended by the last moment
     End {
         tick: 0,
         task: Sheet::MOST_TASKS,

@@ -22,7 +22,7 @@ use Rattle.plays.specs.declared.Entry.{Entry}
 use Rattle.plays.specs.ScriptRun.{by-place, released-at, script-state}
 use Rattle.plays.specs.Says.{AllReleased, Later}
 use Rattle.plays.specs.Play.{all-released, script-seen, all-done}
-use Rattle.plays.proofs.Courses.{entry-found}
+use Rattle.plays.proofs.Ledgers.{entry-found}
 use Rattle.plays.proofs.ScriptLegal.{work-some}
 use Rattle.plays.proofs.ScriptLanes.{seen-by-release, state-by-serve}
 use Rattle.plays.proofs.OnePending.{oldest-at-most}

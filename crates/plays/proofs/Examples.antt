@@ -1,4 +1,4 @@
--- Scripts played by computation: case F in exactly its response time, case G's worst run, two tasks that lock, two tasks that miss at one moment, and items that are turned away.
+-- Scripts played by computation: case F in exactly its response time, case G's worst run, two tasks that lock, two tasks that miss at one moment, and an entry out of order.
 use mathlib.Core.List.{List, [], _∷_}
 use mathlib.Core.Option.{none, some}
 use mathlib.Core.Path.{_≡_, refl}
@@ -13,14 +13,14 @@ use Rattle.analysis.specs.Times.{number-at, place-of}
 use Rattle.analysis.specs.Findings.{in-turn}
 use Rattle.plays.specs.Script.{Script, entry-of}
 use Rattle.plays.specs.declared.Entry.{Entry}
-use Rattle.plays.specs.Items.{standing, first-course, after-entry, in-range, in-order, by-rules, sound, first-frame-checks, entry-checks, item-checks}
+use Rattle.plays.specs.Items.{standing, first-ledger, after-entry, in-range, in-order, by-rules, sound, first-frame-checks, entry-checks, item-checks}
 use Rattle.plays.specs.ScriptRun.{work-of, lock-of, released-at, pending-lock, stretch-by, stretch-at, new-stretch, choice, script-state}
 use Rattle.plays.specs.Play.{misses-now, all-released, shown-stretch, script-seen, task-misses, misser, all-done, over, end-of-play, shown-task, shown, shown-from}
 use Rattle.plays.specs.WorstScript.{worst-lock, entry-row, role-of-task, worst-row, worst-firsts, worst-script}
 
 -- what an example opens in order to compute
 plays : Unit {0}
-unfolding first-refusal first every found task-at frame-count next-frame frame deadline-of largest largest-frame start-frame qualifies work lower largest-lock blocker release-lane release oldest-left pending pick serve serve-lane stretch-now stretch-after tick step below-own role worst-first once every-period worst-release number-at place-of in-turn entry-of standing first-course after-entry in-range in-order by-rules sound first-frame-checks entry-checks item-checks work-of lock-of released-at pending-lock stretch-by stretch-at new-stretch choice script-state misses-now all-released shown-stretch script-seen task-misses misser all-done over end-of-play shown-task shown shown-from worst-lock entry-row role-of-task worst-row worst-firsts worst-script
+unfolding first-refusal first every found task-at frame-count next-frame frame deadline-of largest largest-frame start-frame qualifies work lower largest-lock blocker release-lane release oldest-left pending pick serve serve-lane stretch-now stretch-after tick step below-own role worst-first once every-period worst-release number-at place-of in-turn entry-of standing first-ledger after-entry in-range in-order by-rules sound first-frame-checks entry-checks item-checks work-of lock-of released-at pending-lock stretch-by stretch-at new-stretch choice script-state misses-now all-released shown-stretch script-seen task-misses misser all-done over end-of-play shown-task shown shown-from worst-lock entry-row role-of-task worst-row worst-firsts worst-script
 plays = tt
 
 -- an entry: task, tick, work, lock
@@ -75,3 +75,9 @@ ends-at : let none-at-all : Script = record { firsts = 0 ∷ 0 ∷ []; entries =
     (end-of-play listed (two 3) none-at-all ≡ 0) × (end-of-play listed (two 3) no-work ≡ 3)
 unfolding plays
 ends-at = (refl, refl)
+
+-- ---- out of order: of the same tick task 1 before task 0, item 3
+
+out-of-order : let sc : Script = record { firsts = 0 ∷ 0 ∷ []; entries = at 1 0 5 0 ∷ at 0 0 2 0 ∷ [] } in first-refusal (item-checks (two 3) sc) ≡ some 3
+unfolding plays
+out-of-order = refl

@@ -1,4 +1,5 @@
 -- The theorems on scripts and plays are in ScriptLegal, Refused, OnePending, PlayEnds, PlaySays, TickSays, WorstPlayed, WorstSound and WorstMiss; the rest stands below these.
+pub mod Examples
 pub mod ScriptLegal
 pub mod Refused
 pub mod OnePending
@@ -10,7 +11,7 @@ pub mod WorstSound
 pub mod WorstMiss
 pub mod States
 pub mod ScriptLanes
-pub mod Courses
+pub mod Ledgers
 pub mod ScriptFacts
 pub mod AllDone
 pub mod InTurn
@@ -19,4 +20,3 @@ pub mod SameStates
 pub mod WorstEntries
 pub mod WorstLanes
 pub mod WorstCount
-pub mod Examples

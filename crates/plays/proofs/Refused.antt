@@ -22,10 +22,10 @@ use Rattle.analysis.specs.Times.{number-at, place-of}
 use Rattle.analysis.proofs.Numbering.{number-back}
 use Rattle.plays.specs.Script.{Script, no-entry}
 use Rattle.plays.specs.declared.Entry.{Entry}
-use Rattle.plays.specs.Items.{Course, standing, first-course, after-entry, sound, first-frame-checks, entry-checks, item-checks}
+use Rattle.plays.specs.Items.{Ledger, standing, first-ledger, after-entry, sound, first-frame-checks, entry-checks, item-checks}
 use Rattle.plays.specs.Broken.{cut, FramesBefore, Follows, lane-before, EntryBreaks, no-such-task, lock-too-long, out-of-order, too-soon, too-much-work, NoneBreaks, BrokenAt, no-such-frame, broken-entry}
 use Rattle.plays.proofs.ScriptLanes.{place-found}
-use Rattle.plays.proofs.Courses.{after-entries, InOrder, in-order-begin, own-before, course-at, Sound, sound-is, each-sound, checked-in-order}
+use Rattle.plays.proofs.Ledgers.{after-entries, InOrder, in-order-begin, own-before, ledger-at, Sound, sound-is, each-sound, checked-in-order}
 use Rattle.plays.proofs.ScriptLegal.{firsts-fit, firsts-and-entries}
 
 -- ---- which item is turned away
@@ -65,12 +65,12 @@ module _ (tasks : List Task) where
           let (i, at, in-row, bad, fit) = later there in (suc i, omega arith, omega arith, bad, more-fit a i k ks (ltb-true _ _ good) fit)
 
   -- of entries, of which the first is item a, item j is the first that is not sound behind those before it
-  abbrev EntryTurned : ℕ → ℕ → Course → List Entry → Type 0
+  abbrev EntryTurned : ℕ → ℕ → Ledger → List Entry → Type 0
   EntryTurned j a c es =
       (xs : List Entry) × (e : Entry) × (ys : List Entry) × (es ≡ xs ++ (e ∷ ys)) × (j ≡ a + length xs)
       × (first-refusal (entry-checks tasks a c xs) ≡ none) × (sound tasks (after-entries tasks c xs) e ≡ false)
 
-  entry-turned-away : (a : ℕ) (c : Course) (es : List Entry) (j : ℕ) → first-refusal (entry-checks tasks a c es) ≡ some j → EntryTurned j a c es
+  entry-turned-away : (a : ℕ) (c : Ledger) (es : List Entry) (j : ℕ) → first-refusal (entry-checks tasks a c es) ≡ some j → EntryTurned j a c es
   unfolding entry-checks after-entries
   entry-turned-away a c [] j h = absurd (Option·none-ne-some j (sym no-check ∙ h))
   entry-turned-away a c (e ∷ es) j h =
@@ -86,17 +86,17 @@ module _ (tasks : List Task) where
           let (xs, d, ys, split, at, kept, bad) = later there in
           (e ∷ xs, d, ys, ap (λ l. e ∷ l) split, omega arith, passed-over (not (sound tasks c e)) a _ (ap not good) ∙ kept, bad)
 
--- ---- what the course says of the order
+-- ---- what the ledger says of the order
 
 module _ (tasks : List Task) where
-  -- a course goes on behind the last entry
-  behind-last : (c : Course) (us : List Entry) (d : Entry) → after-entries tasks c (us ++ (d ∷ [])) .behind ≡ suc (standing d)
+  -- a ledger goes on behind the last entry
+  behind-last : (c : Ledger) (us : List Entry) (d : Entry) → after-entries tasks c (us ++ (d ∷ [])) .behind ≡ suc (standing d)
   unfolding after-entries after-entry
   behind-last c [] d = refl
   behind-last c (u ∷ us) d = behind-last (after-entry tasks c u) us d
 
-  -- an entry behind a row in order, where the course allows it, makes a longer row in order
-  in-order-more : (c : Course) (xs : List Entry) (e : Entry) → InOrder (c .behind) xs → after-entries tasks c xs .behind ≤ standing e → InOrder (c .behind) (xs ++ (e ∷ []))
+  -- an entry behind a row in order, where the ledger allows it, makes a longer row in order
+  in-order-more : (c : Ledger) (xs : List Entry) (e : Entry) → InOrder (c .behind) xs → after-entries tasks c xs .behind ≤ standing e → InOrder (c .behind) (xs ++ (e ∷ []))
   unfolding after-entries after-entry
   in-order-more c [] e o h = (h, tt)
   in-order-more c (x ∷ xs) e o h = (o .0, in-order-more (after-entry tasks c x) xs e (o .1) h)
@@ -111,79 +111,79 @@ goes-on xs e ys xs′ ys′ same h =
     (drop (suc n) xs′, split-at xs′ n no-entry h ∙ ap₂ (λ l d. l ++ (d ∷ drop (suc n) xs′)) begin next)
 
 module _ (order : List ℕ) (tasks : List Task) (sc : Script) (permutes : Permutes (length tasks) order) where
-  -- the course behind the entries xs of the script
-  abbrev course : List Entry → Course
-  course xs = after-entries tasks (first-course (sc .firsts)) xs
+  -- the ledger behind the entries xs of the script
+  abbrev ledger : List Entry → Ledger
+  ledger xs = after-entries tasks (first-ledger (sc .firsts)) xs
 
-  first-behind : course [] .behind ≡ 0
-  unfolding after-entries first-course
+  first-behind : ledger [] .behind ≡ 0
+  unfolding after-entries first-ledger
   first-behind = refl
 
-  -- an entry that the course does not allow stands no further than the last
-  not-behind : (xs : List Entry) (e : Entry) → standing e < course xs .behind → (us : List Entry) × (d : Entry) × (xs ≡ us ++ (d ∷ [])) × (standing e ≤ standing d)
+  -- an entry that the ledger does not allow stands no further than the last
+  not-behind : (xs : List Entry) (e : Entry) → standing e < ledger xs .behind → (us : List Entry) × (d : Entry) × (xs ≡ us ++ (d ∷ [])) × (standing e ≤ standing d)
   not-behind xs e h = go (eq-nil-or-concat xs)
     where
       go : (xs ≡ []) ⊎ ((us : List Entry) × (d : Entry) × (xs ≡ concat us d)) → (us : List Entry) × (d : Entry) × (xs ≡ us ++ (d ∷ [])) × (standing e ≤ standing d)
       go (inl q) = let z : ⊥ = omega (arith, rw q at h, first-behind) in absurd z
       go (inr (us, d, q)) =
           let split : xs ≡ us ++ (d ∷ []) = q ∙ concat-eq-append us d in
-          (us, d, split, omega (arith, rw split at h, behind-last tasks (first-course (sc .firsts)) us d))
+          (us, d, split, omega (arith, rw split at h, behind-last tasks (first-ledger (sc .firsts)) us d))
 
   -- one that it allows follows
-  behind-follows : (xs : List Entry) (e : Entry) → course xs .behind ≤ standing e → Follows xs e
-  behind-follows xs e h us d split = omega (arith, rw split at h, behind-last tasks (first-course (sc .firsts)) us d)
+  behind-follows : (xs : List Entry) (e : Entry) → ledger xs .behind ≤ standing e → Follows xs e
+  behind-follows xs e h us d split = omega (arith, rw split at h, behind-last tasks (first-ledger (sc .firsts)) us d)
 
   module _ (xs : List Entry) (e : Entry) (o : InOrder 0 xs) where
-    longer-in-order : course xs .behind ≤ standing e → InOrder 0 (xs ++ (e ∷ []))
-    unfolding first-course
-    longer-in-order h = in-order-more tasks (first-course (sc .firsts)) xs e o h
+    longer-in-order : ledger xs .behind ≤ standing e → InOrder 0 (xs ++ (e ∷ []))
+    unfolding first-ledger
+    longer-in-order h = in-order-more tasks (first-ledger (sc .firsts)) xs e o h
 
-    -- the course behind xs is the lane of the task of an entry that follows, in the run of the script cut before it
-    course-is-cut-lane : e .task < length tasks → course xs .behind ≤ standing e
-        → (course xs .next (e .task) ≡ lane-before order tasks sc xs e .next) × (course xs .free-from (e .task) ≡ lane-before order tasks sc xs e .free-from)
-    course-is-cut-lane in-set h =
+    -- the ledger behind xs is the lane of the task of an entry that follows, in the run of the script cut before it
+    ledger-is-cut-lane : e .task < length tasks → ledger xs .behind ≤ standing e
+        → (ledger xs .next (e .task) ≡ lane-before order tasks sc xs e .next) × (ledger xs .free-from (e .task) ≡ lane-before order tasks sc xs e .free-from)
+    ledger-is-cut-lane in-set h =
         let same : number-at order (place-of order (e .task)) ≡ e .task = number-back (length tasks) order permutes (e .task) in-set in
         let lane =
-        course-at order tasks (cut sc xs) (place-of order (e .task)) (place-found order tasks permutes (e .task) in-set) 0 o (e .tick) xs [] (sym (append-nil xs))
+        ledger-at order tasks (cut sc xs) (place-of order (e .task)) (place-found order tasks permutes (e .task) in-set) 0 o (e .tick) xs [] (sym (append-nil xs))
         (rw same (own-before 0 xs e [] (longer-in-order h))) (λ d m q. absurd (List·Memᴰ·not-nil m)) in
         rw same at lane
 
     -- an entry that is not sound breaks something
-    unsound-breaks : ¬ Sound tasks (course xs) e → EntryBreaks order tasks sc xs e
+    unsound-breaks : ¬ Sound tasks (ledger xs) e → EntryBreaks order tasks sc xs e
     unsound-breaks bad =
-        go (decLt (e .task) (length tasks)) (decLe (e .lock) (task-at tasks (e .task) .lock)) (decLe (course xs .behind) (standing e))
-        (decLe (course xs .free-from (e .task)) (e .tick)) (decLe (e .work) (frame (task-at tasks (e .task)) (course xs .next (e .task))))
+        go (decLt (e .task) (length tasks)) (decLe (e .lock) (task-at tasks (e .task) .lock)) (decLe (ledger xs .behind) (standing e))
+        (decLe (ledger xs .free-from (e .task)) (e .tick)) (decLe (e .work) (frame (task-at tasks (e .task)) (ledger xs .next (e .task))))
       where
-        go : Dec (e .task < length tasks) → Dec (e .lock ≤ task-at tasks (e .task) .lock) → Dec (course xs .behind ≤ standing e)
-            → Dec (course xs .free-from (e .task) ≤ e .tick) → Dec (e .work ≤ frame (task-at tasks (e .task)) (course xs .next (e .task)))
+        go : Dec (e .task < length tasks) → Dec (e .lock ≤ task-at tasks (e .task) .lock) → Dec (ledger xs .behind ≤ standing e)
+            → Dec (ledger xs .free-from (e .task) ≤ e .tick) → Dec (e .work ≤ frame (task-at tasks (e .task)) (ledger xs .next (e .task)))
             → EntryBreaks order tasks sc xs e
         go (no n) lock turn apart work = no-such-task (omega arith)
         go (yes i) (no n) turn apart work = lock-too-long (omega arith)
         go (yes i) (yes l) (no n) apart work = let (us, d, split, h) = not-behind xs e (omega arith) in out-of-order us d split h
-        go (yes i) (yes l) (yes b) (no n) work = too-soon i (behind-follows xs e b) (rw (← course-is-cut-lane i b .1) (omega arith))
-        go (yes i) (yes l) (yes b) (yes a) (no n) = too-much-work i (behind-follows xs e b) (rw (← course-is-cut-lane i b .0) (omega arith))
+        go (yes i) (yes l) (yes b) (no n) work = too-soon i (behind-follows xs e b) (rw (← ledger-is-cut-lane i b .1) (omega arith))
+        go (yes i) (yes l) (yes b) (yes a) (no n) = too-much-work i (behind-follows xs e b) (rw (← ledger-is-cut-lane i b .0) (omega arith))
         go (yes i) (yes l) (yes b) (yes a) (yes w) = absurd (bad (record { in-set = i; lock-fits = l; in-turn = b; apart = a; work-fits = w }))
 
     -- a sound one breaks nothing
-    sound-breaks-nothing : Sound tasks (course xs) e → EntryBreaks order tasks sc xs e → ⊥
+    sound-breaks-nothing : Sound tasks (ledger xs) e → EntryBreaks order tasks sc xs e → ⊥
     sound-breaks-nothing s (no-such-task h) = omega (arith, s .in-set)
     sound-breaks-nothing s (lock-too-long h) = omega (arith, s .lock-fits)
     sound-breaks-nothing s (out-of-order us d split h) = omega (arith, behind-follows xs e (s .in-turn) us d split)
-    sound-breaks-nothing s (too-soon i f h) = omega (arith, s .apart, course-is-cut-lane i (s .in-turn) .1)
+    sound-breaks-nothing s (too-soon i f h) = omega (arith, s .apart, ledger-is-cut-lane i (s .in-turn) .1)
     sound-breaks-nothing s (too-much-work i f h) =
-        let fits : e .work ≤ frame (task-at tasks (e .task)) (lane-before order tasks sc xs e .next) = rw (← course-is-cut-lane i (s .in-turn) .0) (s .work-fits) in
+        let fits : e .work ≤ frame (task-at tasks (e .task)) (lane-before order tasks sc xs e .next) = rw (← ledger-is-cut-lane i (s .in-turn) .0) (s .work-fits) in
         omega arith
 
   -- entries of which none is turned away are in order
-  passed-in-order : (xs : List Entry) → first-refusal (entry-checks tasks (length (sc .firsts)) (first-course (sc .firsts)) xs) ≡ none → InOrder 0 xs
-  unfolding first-course
-  passed-in-order xs kept = checked-in-order tasks (length (sc .firsts)) (first-course (sc .firsts)) xs kept
+  passed-in-order : (xs : List Entry) → first-refusal (entry-checks tasks (length (sc .firsts)) (first-ledger (sc .firsts)) xs) ≡ none → InOrder 0 xs
+  unfolding first-ledger
+  passed-in-order xs kept = checked-in-order tasks (length (sc .firsts)) (first-ledger (sc .firsts)) xs kept
 
   -- and none of them breaks anything
-  passed-unbroken : (xs : List Entry) → first-refusal (entry-checks tasks (length (sc .firsts)) (first-course (sc .firsts)) xs) ≡ none → NoneBreaks order tasks sc xs
+  passed-unbroken : (xs : List Entry) → first-refusal (entry-checks tasks (length (sc .firsts)) (first-ledger (sc .firsts)) xs) ≡ none → NoneBreaks order tasks sc xs
   passed-unbroken xs kept us d vs split =
       sound-breaks-nothing us d (in-order-begin 0 us (d ∷ vs) (rw (← split) (passed-in-order xs kept)))
-      (each-sound tasks (length (sc .firsts)) (first-course (sc .firsts)) us d vs (rw (← split) kept))
+      (each-sound tasks (length (sc .firsts)) (first-ledger (sc .firsts)) us d vs (rw (← split) kept))
 
   frame-refused : (j : ℕ) → first-refusal (first-frame-checks tasks 0 (sc .firsts)) ≡ some j → BrokenAt order tasks sc j
   frame-refused j h =
@@ -195,11 +195,11 @@ module _ (order : List ℕ) (tasks : List Task) (sc : Script) (permutes : Permut
   frames-pass kept i l = rw (zero-add i) at (firsts-fit tasks 0 (sc .firsts) kept i l)
 
   entry-refused : (j : ℕ) → first-refusal (first-frame-checks tasks 0 (sc .firsts)) ≡ none
-      → first-refusal (entry-checks tasks (length (sc .firsts)) (first-course (sc .firsts)) (sc .entries)) ≡ some j → BrokenAt order tasks sc j
+      → first-refusal (entry-checks tasks (length (sc .firsts)) (first-ledger (sc .firsts)) (sc .entries)) ≡ some j → BrokenAt order tasks sc j
   entry-refused j frames h =
-      let (xs, e, ys, split, at, kept, bad) = entry-turned-away tasks (length (sc .firsts)) (first-course (sc .firsts)) (sc .entries) j h in
+      let (xs, e, ys, split, at, kept, bad) = entry-turned-away tasks (length (sc .firsts)) (first-ledger (sc .firsts)) (sc .entries) j h in
       broken-entry xs e ys split at (frames-pass frames) (passed-unbroken xs kept)
-      (unsound-breaks xs e (passed-in-order xs kept) (refused bad (sound-is tasks (course xs) e)))
+      (unsound-breaks xs e (passed-in-order xs kept) (refused bad (sound-is tasks (ledger xs) e)))
 
   -- the item that is turned away is the first that is wrong
   pub item-refused : (j : ℕ) → first-refusal (item-checks tasks sc) ≡ some j → BrokenAt order tasks sc j
@@ -210,7 +210,7 @@ module _ (order : List ℕ) (tasks : List Task) (sc : Script) (permutes : Permut
       frames = first-frame-checks tasks 0 (sc .firsts)
 
       entries : List (Check ℕ)
-      entries = entry-checks tasks (length (sc .firsts)) (first-course (sc .firsts)) (sc .entries)
+      entries = entry-checks tasks (length (sc .firsts)) (first-ledger (sc .firsts)) (sc .entries)
 
       go : Answer (first-refusal frames) → BrokenAt order tasks sc j
       go (nothing e) = entry-refused j e (sym (none-first frames entries e) ∙ h)

@@ -11,7 +11,7 @@ use Rattle.analysis.specs.Findings.{in-turn}
 use Rattle.plays.specs.Script.{entry-of}
 use Rattle.plays.specs.Items.{standing}
 use Rattle.plays.specs.declared.Entry.{Entry}
-use Rattle.plays.proofs.Courses.{InOrder, entry-behind, entry-before}
+use Rattle.plays.proofs.Ledgers.{InOrder, entry-behind, entry-before}
 
 -- ---- the entry of a task at a tick
 

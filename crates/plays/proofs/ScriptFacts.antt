@@ -12,7 +12,7 @@ use Rattle.sheet.specs.Constants.{most-tasks}
 use Rattle.plays.specs.Script.{Script, no-entry, entry-of}
 use Rattle.plays.specs.declared.Entry.{Entry}
 use Rattle.plays.specs.Items.{standing, item-checks}
-use Rattle.plays.proofs.Courses.{InOrder, stands-from, in-order-end, no-later, own-before, none-later, entry-here, entry-later, entry-of-nil, no-entry-of, entry-behind, entry-before, entry-found, entry-is}
+use Rattle.plays.proofs.Ledgers.{InOrder, stands-from, in-order-end, no-later, own-before, none-later, entry-here, entry-later, entry-of-nil, no-entry-of, entry-behind, entry-before, entry-found, entry-is}
 use Rattle.plays.proofs.ScriptLegal.{entries-in-order, entry-sound}
 
 -- an entry of a row is one of its members

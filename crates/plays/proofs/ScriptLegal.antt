@@ -1,6 +1,6 @@
 -- The run of a script of which no item is turned away keeps the run rules; and each job of a script's run has its entry.
 use mathlib.Core.Bool.{Bool, true, false, cond}
-use mathlib.Core.List.{List, [], _∷_, _++_, List·Memᴰ, List·Memᴰ·head, List·Memᴰ·tail, List·Memᴰ·cases-cons, List·Memᴰ·not-nil}
+use mathlib.Core.List.{List, [], _∷_, _++_, List·Memᴰ, List·Memᴰ·not-nil}
 use mathlib.Core.Logic.{_⊎_, inl, inr}
 use mathlib.Core.Option.{Option, none, some, Option·none-ne-some, Option·some-injective}
 use mathlib.Core.Path.{_≡_, refl, sym, _∙_, ap}
@@ -11,7 +11,8 @@ use borrow.Author.Tests.{not-false, ltb-true}
 use lib.Dec.{leb}
 use lib.ListN.{length, getD}
 use Rattle.theory.specs.Tasks.{Task, task-at, frame-count, frame}
-use Rattle.theory.specs.Runs.{Job, job, Lane, State, release, serve, serve-lane, pick, longest-stretch, LegalTick, Legal}
+use Rattle.theory.specs.Runs.{Job, job, State, release, serve-lane, pick, longest-stretch, LegalTick, Legal}
+use Rattle.theory.proofs.Lanes.{serve-lane-mem}
 use Rattle.theory.proofs.Steps.{Picked, in-stretch, highest, idle, picked}
 use Rattle.lent.specs.Checks.{first-refusal}
 use Rattle.lent.proofs.Checks.{passed, both-passed}
@@ -20,12 +21,12 @@ use Rattle.analysis.specs.Times.{number-at, place-of}
 use Rattle.analysis.proofs.Numbering.{number-in, place-back}
 use Rattle.plays.specs.Script.{Script, entry-of}
 use Rattle.plays.specs.declared.Entry.{Entry}
-use Rattle.plays.specs.Items.{first-course, first-frame-checks, entry-checks, item-checks}
+use Rattle.plays.specs.Items.{first-ledger, first-frame-checks, entry-checks, item-checks}
 use Rattle.plays.specs.ScriptRun.{by-place, work-of, lock-of, pending-lock, stretch-by, stretch-at, new-stretch, choice, script-state, script-run, released-at}
 use Rattle.plays.specs.Play.{script-seen}
 use Rattle.plays.proofs.States.{run-state, run-seen}
 use Rattle.plays.proofs.ScriptLanes.{by-place-length, by-place-at, state-by-serve, no-first-jobs, seen-job}
-use Rattle.plays.proofs.Courses.{InOrder, Sound, after-entries, entry-found, releases, course-is-lane, each-sound, checked-in-order}
+use Rattle.plays.proofs.Ledgers.{InOrder, Sound, after-entries, entry-found, releases, ledger-is-lane, each-sound, checked-in-order}
 
 -- first frames of which none is turned away, of the tasks from task a on, are frames of their tasks
 pub firsts-fit : (tasks : List Task) (a : ℕ) (ks : List ℕ) → first-refusal (first-frame-checks tasks a ks) ≡ none
@@ -82,18 +83,18 @@ stretch-is order tasks sc n t = refl
 module _ (tasks : List Task) (sc : Script) (kept : first-refusal (item-checks tasks sc) ≡ none) where
   -- none of the first frames is turned away, and none of the entries
   pub firsts-and-entries : (first-refusal (first-frame-checks tasks 0 (sc .firsts)) ≡ none)
-      × (first-refusal (entry-checks tasks (length (sc .firsts)) (first-course (sc .firsts)) (sc .entries)) ≡ none)
+      × (first-refusal (entry-checks tasks (length (sc .firsts)) (first-ledger (sc .firsts)) (sc .entries)) ≡ none)
   unfolding item-checks
   firsts-and-entries = both-passed (first-frame-checks tasks 0 (sc .firsts)) _ kept
 
   -- the entries of the script are in order
   pub entries-in-order : InOrder 0 (sc .entries)
-  unfolding first-course
-  entries-in-order = checked-in-order tasks (length (sc .firsts)) (first-course (sc .firsts)) (sc .entries) (firsts-and-entries .1)
+  unfolding first-ledger
+  entries-in-order = checked-in-order tasks (length (sc .firsts)) (first-ledger (sc .firsts)) (sc .entries) (firsts-and-entries .1)
 
   -- and each is sound after those before it
-  pub entry-sound : (xs : List Entry) (e : Entry) (ys : List Entry) → sc .entries ≡ xs ++ (e ∷ ys) → Sound tasks (after-entries tasks (first-course (sc .firsts)) xs) e
-  entry-sound xs e ys split = each-sound tasks (length (sc .firsts)) (first-course (sc .firsts)) xs e ys (rw (← split) (firsts-and-entries .1))
+  pub entry-sound : (xs : List Entry) (e : Entry) (ys : List Entry) → sc .entries ≡ xs ++ (e ∷ ys) → Sound tasks (after-entries tasks (first-ledger (sc .firsts)) xs) e
+  entry-sound xs e ys split = each-sound tasks (length (sc .firsts)) (first-ledger (sc .firsts)) xs e ys (rw (← split) (firsts-and-entries .1))
 
 module _ (order : List ℕ) (tasks : List Task) (sc : Script) (permutes : Permutes (length tasks) order)
     (kept : first-refusal (item-checks tasks sc) ≡ none) where
@@ -106,8 +107,8 @@ module _ (order : List ℕ) (tasks : List Task) (sc : Script) (permutes : Permut
   entry-kept : (t p : ℕ) (e : Entry) → p < length tasks → entry-of (sc .entries) (number-at order p) t ≡ some e → Kept t p e
   entry-kept t p e l f =
       let (xs, ys, split, own, at) = entry-found (sc .entries) (number-at order p) t e f in
-      let s : Sound tasks (after-entries tasks (first-course (sc .firsts)) xs) e = entry-sound tasks sc kept xs e ys split in
-      let (next, free) = course-is-lane order tasks sc permutes 0 (entries-in-order tasks sc kept) xs e ys split (s .in-set) in
+      let s : Sound tasks (after-entries tasks (first-ledger (sc .firsts)) xs) e = entry-sound tasks sc kept xs e ys split in
+      let (next, free) = ledger-is-lane order tasks sc permutes 0 (entries-in-order tasks sc kept) xs e ys split (s .in-set) in
       let place : place-of order (e .task) ≡ p = ap (place-of order) own ∙ place-back (length tasks) order permutes p l in
       record {
         free = rw (free, place, at) at (s .apart);
@@ -172,30 +173,6 @@ module _ (order : List ℕ) (tasks : List Task) (sc : Script) (permutes : Permut
 
 -- ---- the jobs of a script's run
 
--- a job that is served was there before, with as much work or more
-served-mem : (js : List Job) {r k w : ℕ} → List·Memᴰ (job r k w) (serve js) → (v : ℕ) × List·Memᴰ (job r k v) js × (w ≤ v)
-unfolding serve
-served-mem [] m = absurd (List·Memᴰ·not-nil m)
-served-mem (job r′ k′ zero ∷ js) {r} {k} {w} m = go (List·Memᴰ·cases-cons m) (served-mem js {r = r} {k = k} {w = w})
-  where
-    go : (job r k w ≡ job r′ k′ zero) ⊎ List·Memᴰ (job r k w) (serve js) → (List·Memᴰ (job r k w) (serve js) → (v : ℕ) × List·Memᴰ (job r k v) js × (w ≤ v))
-        → (v : ℕ) × List·Memᴰ (job r k v) (job r′ k′ zero ∷ js) × (w ≤ v)
-    go (inl e) later = (w, List·Memᴰ·head e, le-refl w)
-    go (inr n) later = let (v, there, more) = later n in (v, List·Memᴰ·tail there, more)
-served-mem (job r′ k′ (suc w′) ∷ js) {r} {k} {w} m = go (List·Memᴰ·cases-cons m)
-  where
-    go : (job r k w ≡ job r′ k′ w′) ⊎ List·Memᴰ (job r k w) js → (v : ℕ) × List·Memᴰ (job r k v) (job r′ k′ (suc w′) ∷ js) × (w ≤ v)
-    go (inl e) =
-        let same : job r k (suc w′) ≡ job r′ k′ (suc w′) = cc in
-        let left : w ≡ w′ = cc in
-        (suc w′, List·Memᴰ·head same, omega arith)
-    go (inr n) = (w, List·Memᴰ·tail n, le-refl w)
-
-served-lane-mem : (b : Bool) (l : Lane) {r k w : ℕ} → List·Memᴰ (job r k w) (serve-lane b l .jobs) → (v : ℕ) × List·Memᴰ (job r k v) (l .jobs) × (w ≤ v)
-unfolding serve-lane
-served-lane-mem false l {w} m = (w, m, le-refl w)
-served-lane-mem true l m = served-mem (l .jobs) m
-
 -- a job of task i that was released at tick r and has so much work left has its entry in the script, with that much work or more
 pub record HasEntry (sc : Script) (i r left : ℕ) : Type 0 where
   pub entry : Entry
@@ -227,7 +204,7 @@ module _ (order : List ℕ) (tasks : List Task) (sc : Script) where
       go : (b : Bool) × (script-state order tasks sc (suc t) .lanes p ≡ serve-lane b (script-seen order tasks sc t .lanes p))
           → Entered (suc t) p (script-seen order tasks sc t .lanes p .jobs) → (r < suc t) × HasEntry sc (number-at order p) r left
       go (b, step) seen =
-          let (v, n, more) = served-lane-mem b (script-seen order tasks sc t .lanes p) (rw step at m) in
+          let (v, n, more) = serve-lane-mem b (script-seen order tasks sc t .lanes p) (rw step at m) in
           let (earlier, has) = seen r k v n in
           (earlier, record { entry = has .entry; stands = has .stands; no-more = le-trans more (has .no-more) })
 

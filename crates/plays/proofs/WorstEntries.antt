@@ -18,7 +18,7 @@ use Rattle.plays.specs.Items.{standing}
 use Rattle.plays.specs.declared.Entry.{Entry}
 use Rattle.plays.specs.ScriptRun.{by-place}
 use Rattle.plays.specs.WorstScript.{worst-lock, entry-row, role-of-task, worst-row, worst-script}
-use Rattle.plays.proofs.Courses.{InOrder}
+use Rattle.plays.proofs.Ledgers.{InOrder}
 use Rattle.plays.proofs.Rows.{turn-has-none, turn-has, in-some-row, Rises, rises-wider, rises-in-turn, rises-in-order}
 
 -- ---- one row

@@ -11,11 +11,11 @@ use Rattle.theory.specs.Analysis.{blocker}
 use Rattle.theory.specs.Runs.{job, State, Run, release-lane, release, oldest-left, pick, serve, stretch-now, tick, start-state, state-at, seen-at}
 use Rattle.theory.specs.WorstRun.{absent, role, worst-run}
 use Rattle.theory.proofs.Lanes.{oldest-one, serve-job, serve-empty}
-use Rattle.theory.proofs.Steps.{oldest, Picked, in-stretch, highest, idle, picked, tick-served, tick-others, tick-owner, tick-to-come, tick-idle, seen-lane, lane-after, state-step}
+use Rattle.theory.proofs.Steps.{oldest, Picked, in-stretch, highest, idle, picked, tick-served, tick-others, tick-owner, tick-to-come, tick-idle, unreleased, lane-after, state-step}
 use Rattle.theory.proofs.WorstReleases.{once-else, role-blocks, release-blocker, release-absent}
 use Rattle.theory.proofs.WorstTicks.{stretch-none, stretch-of-job, now-starts}
 use Rattle.theory.proofs.WorstFirstTick.{blocker-lane, none-under-way, FirstTick, blocked, unblocked, first-tick, blocker-stretch}
-use Rattle.theory.proofs.WorstLegal.{no-later-stretch}
+use Rattle.theory.proofs.WorstLegal.{later-step}
 
 -- a stretch under way goes on
 now-under-way : (m : ℕ) → stretch-now (suc m) 0 ≡ suc m
@@ -63,12 +63,6 @@ module _ (set : List Task) (p k : ℕ) where
   abbrev worst : Run
   worst = worst-run set p k
 
-  -- without a release the lane is the one before
-  pub unreleased : (t q : ℕ) → worst-run set p k .input t .release-of q ≡ none
-      → seen-at set (worst-run set p k) t .lanes q ≡ state-at set (worst-run set p k) t .lanes q
-  unfolding release-lane
-  unreleased t q e = seen-lane set worst t q ∙ rw e
-
   -- before tick 0 no lane has a job
   pub nothing-before : (q : ℕ) → state-at set (worst-run set p k) 0 .lanes q .jobs ≡ []
   unfolding state-at start-state
@@ -86,13 +80,6 @@ module _ (set : List Task) (admitted : Admitted set) (p : ℕ) (in-set : p < len
   abbrev run : Run
   run = worst-run set p k
 
-  -- a tick after the first starts no stretch
-  later-step : (t : ℕ) → state-at set (worst-run set p k) (suc (suc t))
-      ≡ tick (pick set (seen-at set (worst-run set p k) (suc t))) 0 (seen-at set (worst-run set p k) (suc t))
-  later-step t =
-      state-step set run (suc t)
-      ∙ ap (λ new. tick (pick set (seen-at set run (suc t))) new (seen-at set run (suc t))) (no-later-stretch set admitted p in-set k k-in t)
-
   -- ---- the blocker
 
   module _ (b : ℕ) (is-b : blocker set p ≡ some b) where
@@ -103,7 +90,7 @@ module _ (set : List Task) (admitted : Admitted set) (p : ℕ) (in-set : p < len
     unfolding seen-at release
     seen-runs t r =
         record {
-          one-left = ap (λ l. l .jobs) (unreleased set p k (suc t) b (blocker-later t)) ∙ r .one-left;
+          one-left = ap (λ l. l .jobs) (unreleased set run (suc t) b (blocker-later t)) ∙ r .one-left;
           rest-to-come = r .rest-to-come;
           is-owner = r .is-owner;
         }
@@ -120,7 +107,7 @@ module _ (set : List Task) (admitted : Admitted set) (p : ℕ) (in-set : p < len
             (rw (none-under-way set p k) (now-starts (task-at set b .lock))))
         go (unblocked no-b at) = absurd (Option·none-ne-some b (sym no-b ∙ is-b))
     blocker-runs (suc t) =
-        rw (later-step t, sub-suc (task-at set b .lock) (suc t))
+        rw (later-step set admitted p in-set k k-in t, sub-suc (task-at set b .lock) (suc t))
         (runs-on b _ (seen-at set run (suc t)) set (task-at set b .lock - suc t) (seen-runs t (blocker-runs t)) (picked set (seen-at set run (suc t))))
 
     -- from tick 1 on it is pending only in its stretch

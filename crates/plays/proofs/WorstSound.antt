@@ -17,17 +17,17 @@ use Rattle.order.specs.Claims.{Permutes}
 use Rattle.analysis.specs.Times.{place-of}
 use Rattle.plays.specs.Script.{Script}
 use Rattle.plays.specs.declared.Entry.{Entry}
-use Rattle.plays.specs.Items.{Course, standing, first-course, after-entry, first-frame-checks, entry-checks, item-checks}
+use Rattle.plays.specs.Items.{Ledger, standing, first-ledger, after-entry, first-frame-checks, entry-checks, item-checks}
 use Rattle.plays.specs.ScriptRun.{by-place}
 use Rattle.plays.specs.WorstScript.{role-of-task, worst-firsts, worst-script}
-use Rattle.plays.proofs.Courses.{after-entries, InOrder, Sound, sound-is, course-is-lane}
+use Rattle.plays.proofs.Ledgers.{after-entries, InOrder, Sound, sound-is, ledger-is-lane}
 use Rattle.plays.proofs.ScriptLanes.{task-of-number}
 use Rattle.plays.proofs.WorstEntries.{release-of-task, WorstEntry, worst-entry-is, worst-entry-in-range, worst-entries-in-order}
 use Rattle.plays.proofs.WorstPlayed.{place-of-number, worst-run-is-legal, worst-same}
 
 module _ (tasks : List Task) where
   -- where each entry is sound after those before it, none is turned away
-  none-refused : (j : ℕ) (c : Course) (es : List Entry)
+  none-refused : (j : ℕ) (c : Ledger) (es : List Entry)
       → ((xs : List Entry) (e : Entry) (ys : List Entry) → es ≡ xs ++ (e ∷ ys) → Sound tasks (after-entries tasks c xs) e)
       → first-refusal (entry-checks tasks j c es) ≡ none
   unfolding entry-checks after-entries
@@ -37,7 +37,7 @@ module _ (tasks : List Task) where
       ∙ none-refused (suc j) (after-entry tasks c e) es (λ xs d ys split. h (e ∷ xs) d ys (ap (λ l. e ∷ l) split))
 
   -- of entries in order each stands behind those before it
-  stands-behind : (c : Course) (xs : List Entry) (e : Entry) (ys : List Entry) → InOrder (c .behind) (xs ++ (e ∷ ys)) → after-entries tasks c xs .behind ≤ standing e
+  stands-behind : (c : Ledger) (xs : List Entry) (e : Entry) (ys : List Entry) → InOrder (c .behind) (xs ++ (e ∷ ys)) → after-entries tasks c xs .behind ≤ standing e
   unfolding after-entries after-entry
   stands-behind c [] e ys o = o .0
   stands-behind c (x ∷ xs) e ys o = stands-behind (after-entry tasks c x) xs e ys (o .1)
@@ -69,29 +69,29 @@ module _ (order : List ℕ) (tasks : List Task) (few : length tasks ≤ most-tas
   in-order : InOrder 0 (sc .entries)
   in-order = worst-entries-in-order order tasks p k few
 
-  first-behind : InOrder (first-course (sc .firsts) .behind) (sc .entries)
-  unfolding first-course
+  first-behind : InOrder (first-ledger (sc .firsts) .behind) (sc .entries)
+  unfolding first-ledger
   first-behind = in-order
 
   release-there : (i t : ℕ) → i < length tasks → worst-run set p k .input t .release-of (place-of order i) ≡ release-of-task order tasks p k i t
   unfolding worst-run role-of-task
   release-there i t h = rw (task-of-number order tasks permutes i h)
 
-  each-is-sound : (xs : List Entry) (e : Entry) (ys : List Entry) → sc .entries ≡ xs ++ (e ∷ ys) → Sound tasks (after-entries tasks (first-course (sc .firsts)) xs) e
+  each-is-sound : (xs : List Entry) (e : Entry) (ys : List Entry) → sc .entries ≡ xs ++ (e ∷ ys) → Sound tasks (after-entries tasks (first-ledger (sc .firsts)) xs) e
   unfolding worst-run
   each-is-sound xs e ys split =
       let stands : List·Memᴰ e (sc .entries) = rw split (Memᴰ·append-right xs (List·Memᴰ·head refl)) in
       let w : WorstEntry order tasks p k e = worst-entry-is order tasks p k e stands in
       let q : ℕ = place-of order (e .task) in
       let there : q < length set = place-of-number order tasks permutes (e .task) (w .of-task) in
-      let (next-is, free-is) = course-is-lane order tasks sc permutes 0 in-order xs e ys split (w .of-task) in
+      let (next-is, free-is) = ledger-is-lane order tasks sc permutes 0 in-order xs e ys split (w .of-task) in
       let same = worst-same order tasks permutes admitted p in-set k k-in (e .tick) (omega (arith, w .by-deadline)) .same-lanes q there in
       let now : worst-run set p k .input (e .tick) .release-of q ≡ some (e .work) = release-there (e .task) (e .tick) (w .of-task) ∙ w .with-work in
       let rules : LegalTick set (worst-run set p k) (e .tick) = legal .each-tick (e .tick) (w .by-deadline) in
       record {
         in-set = w .of-task;
         lock-fits = worst-entry-in-range order tasks p k e stands .1;
-        in-turn = stands-behind tasks (first-course (sc .firsts)) xs e ys (rw (← split) first-behind);
+        in-turn = stands-behind tasks (first-ledger (sc .firsts)) xs e ys (rw (← split) first-behind);
         apart = rw (free-is, same) (rules .apart q (e .work) there now);
         work-fits = rw (next-is, same, ← task-of-number order tasks permutes (e .task) (w .of-task)) (rules .work-fits q (e .work) there now);
       }
@@ -105,4 +105,4 @@ module _ (order : List ℕ) (tasks : List Task) (few : length tasks ≤ most-tas
   unfolding item-checks
   worst-script-sound =
       none-first (first-frame-checks tasks 0 (sc .firsts)) _ first-frames-pass
-      ∙ none-refused tasks (length (sc .firsts)) (first-course (sc .firsts)) (sc .entries) each-is-sound
+      ∙ none-refused tasks (length (sc .firsts)) (first-ledger (sc .firsts)) (sc .entries) each-is-sound

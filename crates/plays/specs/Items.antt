@@ -15,17 +15,17 @@ unfoldable pub standing : Entry → ℕ
 standing e = e .tick * most-tasks + e .task
 
 -- how far the releases have come: of each task the frame of its next job and the first tick at which it may be released, and the least standing of the next entry
-pub record Course : Type 0 where
+pub record Ledger : Type 0 where
   pub next : ℕ → ℕ
   pub free-from : ℕ → ℕ
   pub behind : ℕ
 
 -- before the first entry
-unfoldable pub first-course : List ℕ → Course
-first-course firsts = record { next = λ i. getD firsts i 0; free-from = λ i. 0; behind = 0 }
+unfoldable pub first-ledger : List ℕ → Ledger
+first-ledger firsts = record { next = λ i. getD firsts i 0; free-from = λ i. 0; behind = 0 }
 
 -- after an entry: its task's next job takes the next frame, a period later at the earliest, and the next entry stands behind this one
-unfoldable pub after-entry : List Task → Course → Entry → Course
+unfoldable pub after-entry : List Task → Ledger → Entry → Ledger
 after-entry tasks c e =
     let t = task-at tasks (e .task) in
     record {
@@ -39,14 +39,14 @@ unfoldable pub in-range : List Task → Entry → Bool
 in-range tasks e = ltb (e .task) (length tasks) && leb (e .lock) (task-at tasks (e .task) .lock)
 
 -- in order: behind the entry before it
-unfoldable pub in-order : Course → Entry → Bool
+unfoldable pub in-order : Ledger → Entry → Bool
 in-order c e = leb (c .behind) (standing e)
 
 -- the run rules: releases of a task are at least its period apart, and a job has at most its frame's time as work
-unfoldable pub by-rules : List Task → Course → Entry → Bool
+unfoldable pub by-rules : List Task → Ledger → Entry → Bool
 by-rules tasks c e = leb (c .free-from (e .task)) (e .tick) && leb (e .work) (frame (task-at tasks (e .task)) (c .next (e .task)))
 
-unfoldable pub sound : List Task → Course → Entry → Bool
+unfoldable pub sound : List Task → Ledger → Entry → Bool
 sound tasks c e = in-range tasks e && in-order c e && by-rules tasks c e
 
 -- first frames, of which the first is that of task i: each is a frame of its task
@@ -55,7 +55,7 @@ first-frame-checks tasks i [] = []
 first-frame-checks tasks i (k ∷ ks) = (not (ltb k (frame-count (task-at tasks i))) ⇒ i) ∷ first-frame-checks tasks (suc i) ks
 
 -- entries, of which the first is item j
-unfoldable pub entry-checks : List Task → ℕ → Course → List Entry → List (Check ℕ)
+unfoldable pub entry-checks : List Task → ℕ → Ledger → List Entry → List (Check ℕ)
 entry-checks tasks j c [] = []
 entry-checks tasks j c (e ∷ es) = (not (sound tasks c e) ⇒ j) ∷ entry-checks tasks (suc j) (after-entry tasks c e) es
 
@@ -63,4 +63,4 @@ entry-checks tasks j c (e ∷ es) = (not (sound tasks c e) ⇒ j) ∷ entry-chec
 unfoldable pub item-checks : List Task → Script → List (Check ℕ)
 item-checks tasks sc =
     first-frame-checks tasks 0 (sc .firsts)
-    ++ entry-checks tasks (length (sc .firsts)) (first-course (sc .firsts)) (sc .entries)
+    ++ entry-checks tasks (length (sc .firsts)) (first-ledger (sc .firsts)) (sc .entries)

@@ -1,6 +1,4 @@
 // Run scripts: one release of a script. What a script stands for and how its play ends is in specs/, the theorems are in proofs/.
-ghost use mathlib.Core.Path.{_≡_};
-ghost use Rattle.plays.specs.Script.{no-entry};
 
 // One release: its task by number, its tick, the work of the job, and the length of the stretch that each unlocked pick of the job starts.
 pub struct Entry {
@@ -8,18 +6,4 @@ pub struct Entry {
     pub tick: u32,
     pub work: u32,
     pub lock: u32,
-}
-
-impl Entry {
-    // Where there is none.
-    pub fn blank() -> Entry
-        ensures { λ r. ⌜ r ≡ no-entry ⌝ }
-    {
-        Entry {
-            task: 0,
-            tick: 0,
-            work: 0,
-            lock: 0,
-        }
-    }
 }

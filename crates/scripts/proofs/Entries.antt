@@ -50,7 +50,7 @@ module _ (s : List ℕ) (n j : ℕ) (few : n < 2 ^ 32) (near : j < 2 ^ 32) where
       (laid-whole (unpacked entry-widths (drop (script-width n j) bits)) (replicate 4 0) (sym (length-unpacked entry-widths (drop (script-width n j) bits))))
 
   pub entry-taken : (end at : ℕ) (ws numbers : List ℕ) → end ≡ length s - 2 → at ≡ script-width n j → ws ≡ entry-widths → numbers ≡ taken-row (take end s) at ws (replicate 4 0)
-      → entry-with numbers ≡ entry-at s n j
+      → entry-with numbers ≡ entry-at n s j
   unfolding body entry-with entry-at entry-at-start
   entry-taken end at ws numbers e f v g =
       ap entry-with (g ∙ ap (λ (us : List ℕ). taken-row (take end s) at us (replicate 4 0)) v ∙ ap₂ (λ (k m : ℕ). taken-row (take k s) m entry-widths (replicate 4 0)) e f ∙ numbers-are) ∙ go (there n (suc j) s)
@@ -80,7 +80,7 @@ entry-in (suc m) (suc j) bits h =
 
 module _ (n : ℕ) (s : List ℕ) (w : well-made n s ≡ true) where
   -- the count of a script is that of its entries
-  pub count-of-entries : entry-count s n ≡ length (script-in n s .entries)
+  pub count-of-entries : entry-count n s ≡ length (script-in n s .entries)
   unfolding entry-count script-in
   count-of-entries =
       ap (λ (b : Bool). cond b (entry-count-in n (bits-of (body s))) 0) (made s n w .counted-there)
@@ -92,7 +92,7 @@ module _ (n : ℕ) (s : List ℕ) (w : well-made n s ≡ true) where
       rw (length-entries (entry-count-in n (bits-of (body s))) (drop (script-width n 0) (bits-of (body s)))) (count-small n (bits-of (body s)))
 
   -- what is read for entry j is entry j
-  pub entry-is : (j : ℕ) → j < length (script-in n s .entries) → entry-at s n j ≡ getD (script-in n s .entries) j no-entry
+  pub entry-is : (j : ℕ) → j < length (script-in n s .entries) → entry-at n s j ≡ getD (script-in n s .entries) j no-entry
   unfolding entry-at there script-in
   entry-is j h =
       let bits = bits-of (body s) in

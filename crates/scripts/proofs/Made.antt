@@ -71,11 +71,11 @@ module _ (s : List ℕ) (n : ℕ) where
     pub count-missing : t ≡ Outside → there n 0 s ≡ false
     count-missing f = told-outside (there n 0 s) (entry-count-in n bits) (sym count-is ∙ sym e ∙ f)
 
-    pub counted : (count : ℕ) → t ≡ Value count → count ≡ entry-count s n
+    pub counted : (count : ℕ) → t ≡ Value count → count ≡ entry-count n s
     unfolding entry-count
     counted count f = let h = count-there count f in sym (ap (λ (b : Bool). cond b (entry-count-in n bits) 0) (h .0) ∙ h .1)
 
-    pub uncounted : t ≡ Outside → 0 ≡ entry-count s n
+    pub uncounted : t ≡ Outside → 0 ≡ entry-count n s
     unfolding entry-count
     uncounted f = sym (ap (λ (b : Bool). cond b (entry-count-in n bits) 0) (count-missing f))
 

@@ -1,45 +1,21 @@
--- One entry: the frames of its task's record, and the row of tests that it passes or not.
+-- One entry: the frame that follows its own, and the row of tests that it passes or not.
 use mathlib.Core.Bool.{Bool, false, _&&_, and-false}
 use mathlib.Core.Path.{_≡_, sym, ap, _∙_}
-use Prim.Native.Nat.{ℕ, suc, _+_, _≤_, _<_, min}
-use native.Mathlib.Nat.{mod-eq-of-lt, mod-lt}
+use Prim.Native.Nat.{ℕ, suc, _+_, _≤_, _<_}
+use native.Mathlib.Nat.{mod-lt}
 use native.Mathlib.Numerals.{add-one}
 use native.Mathlib.Omega.{arith}
 use borrow.Author.Tests.{le-leb, lt-leb}
 use lib.Dec.{leb}
-use lib.ListN.{length, getD, length-take}
-use lib.Seq.{getD-take}
 use Rattle.theory.specs.Tasks.{Task, frame-count, frame, next-frame}
-use Rattle.sheet.specs.Constants.{most-frames}
-use Rattle.sheet.specs.Tasks.{task-in, next-round}
-use Rattle.sheet.proofs.Rounds.{round-is}
+use Rattle.sheet.specs.Tasks.{task-in}
 use Rattle.sheet.specs.declared.Task.{Task as Record}
 use Rattle.plays.specs.Items.{standing}
 use Rattle.plays.specs.declared.Entry.{Entry}
 use Rattle.scripts.specs.declared.Turn.{Turn}
 use Rattle.scripts.specs.Inside.Steps.{sound-turn, turn-after}
 
--- ---- the frames of a record
-
-module _ (r : Record) where
-  pub frame-count-is : length (r .frames) ≡ most-frames → min (r .«frame_count») most-frames ≡ frame-count (task-in r)
-  unfolding frame-count task-in
-  frame-count-is e = ap (λ (n : ℕ). min (r .«frame_count») n) (sym e) ∙ sym (length-take (r .«frame_count») (r .frames))
-
-  pub frame-there : (k : ℕ) → k < frame-count (task-in r) → k < length (r .frames)
-  unfolding frame-count task-in
-  frame-there k h = omega (arith, length-take (r .«frame_count») (r .frames))
-
-  pub frame-is : (k : ℕ) → k < frame-count (task-in r) → getD (r .frames) k 0 ≡ frame (task-in r) k
-  unfolding frame-count frame task-in
-  frame-is k h =
-      sym (ap (λ (m : ℕ). getD (task-in r .frames) m 0) (mod-eq-of-lt h)
-      ∙ getD-take (r .«frame_count») (r .frames) k 0 (omega (arith, length-take (r .«frame_count») (r .frames))))
-
-pub next-is : (t : Task) (k n : ℕ) → n ≡ frame-count t → k < frame-count t → next-round k n ≡ next-frame t k
-unfolding next-frame
-next-is t k n e h = ap (next-round k) e ∙ round-is k (frame-count t) h
-
+-- a frame that follows another is one
 pub next-below : (t : Task) (k : ℕ) → k < frame-count t → next-frame t k < frame-count t
 unfolding next-frame
 next-below t k h = mod-lt (suc k) (omega arith)

@@ -1,4 +1,4 @@
--- The walk over the items of a script: first frames, then entries, each with the course of the releases before it.
+-- The walk over the items of a script: first frames, then entries, each with the ledger of the releases before it.
 use mathlib.Core.Bool.{Bool, true, false, not, cond}
 use mathlib.Core.List.{List, [], _∷_, map}
 use mathlib.Core.Option.{none}
@@ -18,7 +18,7 @@ use Rattle.sheet.specs.Tasks.{task-in}
 use Rattle.sheet.specs.declared.Task.{Task as Record}
 use Rattle.order.proofs.Records.{task-there}
 use Rattle.plays.specs.Script.{no-entry}
-use Rattle.plays.specs.Items.{Course, first-course, after-entry, in-range, in-order, by-rules, sound, first-frame-checks, entry-checks}
+use Rattle.plays.specs.Items.{Ledger, first-ledger, after-entry, in-range, in-order, by-rules, sound, first-frame-checks, entry-checks}
 use Rattle.plays.specs.declared.Entry.{Entry}
 use Rattle.scripts.specs.Judging.{judged-by, judged}
 use Rattle.scripts.specs.Inside.Steps.{sound-turn, turn-after}
@@ -127,26 +127,26 @@ module _ (l : List ℕ) (i v : ℕ) (h : i < length l) where
 
 -- ---- entries
 
--- after j entries: the slots of the n tasks hold the course of the releases, and what is left decides
+-- after j entries: the slots of the n tasks hold the ledger of the releases, and what is left decides
 pub record Walked (ts : List Task) (n : ℕ) (fs : List ℕ) (es : List Entry) (next free : List ℕ) (behind j : ℕ) : Type 0 where
-  pub course : Course
+  pub ledger : Ledger
   pub in-row : j ≤ length es
   pub next-room : n ≤ length next
   pub free-room : n ≤ length free
-  pub nexts : (i : ℕ) → i < n → getD next i 0 ≡ course .next i
-  pub frees : (i : ℕ) → i < n → getD free i 0 ≡ course .free-from i
-  pub least : behind ≡ course .behind
+  pub nexts : (i : ℕ) → i < n → getD next i 0 ≡ ledger .next i
+  pub frees : (i : ℕ) → i < n → getD free i 0 ≡ ledger .free-from i
+  pub least : behind ≡ ledger .behind
   pub frames : (i : ℕ) → i < n → getD next i 0 < frame-count (task-at ts i)
-  pub same : judged (entry-checks ts (n + j) course (drop j es)) ≡ judged (entry-checks ts n (first-course fs) es)
+  pub same : judged (entry-checks ts (n + j) ledger (drop j es)) ≡ judged (entry-checks ts n (first-ledger fs) es)
 
 pub none-walked : (ts : List Task) (n : ℕ) (fs : List ℕ) (es : List Entry) (next free : List ℕ) → n ≤ length next → n ≤ length free → length fs ≡ n
     → ((i : ℕ) → i < n → getD next i 0 ≡ getD fs i 0) → ((i : ℕ) → i < n → getD free i 0 ≡ 0)
     → first-refusal (first-frame-checks ts 0 fs) ≡ none → Walked ts n fs es next free 0 0
-unfolding first-course
+unfolding first-ledger
 none-walked ts n fs es next free a b l f g e =
     let none-before : n + 0 ≡ n = omega arith in
     record {
-      course = first-course fs;
+      ledger = first-ledger fs;
       in-row = omega arith;
       next-room = a;
       free-room = b;
@@ -155,29 +155,29 @@ none-walked ts n fs es next free a b l f g e =
       least = refl;
       frames = λ i h. let here : 0 + i ≡ i = omega arith in
           rw (f i h) (rw here at (frames-right ts 0 fs e i (omega arith)));
-      same = ap (λ (k : ℕ). judged (entry-checks ts k (first-course fs) es)) none-before;
+      same = ap (λ (k : ℕ). judged (entry-checks ts k (first-ledger fs) es)) none-before;
     }
 
 module _ {ts : List Task} {n : ℕ} {fs : List ℕ} {es : List Entry} {next free : List ℕ} {behind j : ℕ} (w : Walked ts n fs es next free behind j) where
   -- the answer to all entries
   abbrev answer : Judgement
-  answer = judged (entry-checks ts n (first-course fs) es)
+  answer = judged (entry-checks ts n (first-ledger fs) es)
 
   pub walk-done : length es ≤ j → Sound ≡ answer
   unfolding entry-checks
   walk-done h =
-      sym (sym (w .same) ∙ ap (λ (l : List Entry). judged (entry-checks ts (n + j) (w .course) l)) (drop-of-length-le es h) ∙ ends-sound)
+      sym (sym (w .same) ∙ ap (λ (l : List Entry). judged (entry-checks ts (n + j) (w .ledger) l)) (drop-of-length-le es h) ∙ ends-sound)
 
   module _ (h : j < length es) (e : Entry) (is : e ≡ getD es j no-entry) (as-many : length ts ≡ n) where
     abbrev rest : List (Check ℕ)
-    rest = entry-checks ts (suc (n + j)) (after-entry ts (w .course) e) (drop (suc j) es)
+    rest = entry-checks ts (suc (n + j)) (after-entry ts (w .ledger) e) (drop (suc j) es)
 
-    split : entry-checks ts (n + j) (w .course) (drop j es) ≡ (not (sound ts (w .course) e) ⇒ n + j) ∷ rest
+    split : entry-checks ts (n + j) (w .ledger) (drop j es) ≡ (not (sound ts (w .ledger) e) ⇒ n + j) ∷ rest
     unfolding entry-checks
-    split = ap (entry-checks ts (n + j) (w .course)) (drop-cons es j no-entry h ∙ ap (λ (x : Entry). x ∷ drop (suc j) es) (sym is))
+    split = ap (entry-checks ts (n + j) (w .ledger)) (drop-cons es j no-entry h ∙ ap (λ (x : Entry). x ∷ drop (suc j) es) (sym is))
 
-    refused : sound ts (w .course) e ≡ false → Unsound (n + j) ≡ answer
-    refused f = sym (sym (w .same) ∙ ap judged split ∙ turned (sound ts (w .course) e) (n + j) rest f)
+    refused : sound ts (w .ledger) e ≡ false → Unsound (n + j) ≡ answer
+    refused f = sym (sym (w .same) ∙ ap judged split ∙ turned (sound ts (w .ledger) e) (n + j) rest f)
 
     pub no-such-task : n ≤ e .task → Unsound (n + j) ≡ answer
     unfolding sound in-range
@@ -190,7 +190,7 @@ module _ {ts : List Task} {n : ℕ} {fs : List ℕ} {es : List Entry} {next free
       pub next-in : getD next (e .task) 0 < frame-count (task-in r)
       next-in = rw (← er) (w .frames (e .task) m)
 
-      sound-is : sound ts (w .course) e ≡ sound-turn (task-in r) now e
+      sound-is : sound ts (w .ledger) e ≡ sound-turn (task-in r) now e
       unfolding sound in-range in-order by-rules sound-turn
       sound-is = rw (lt-ltb (e .task) (length ts) (omega arith), er, ← w .least, ← w .nexts (e .task) m, ← w .frees (e .task) m)
 
@@ -202,13 +202,13 @@ module _ {ts : List Task} {n : ℕ} {fs : List ℕ} {es : List Entry} {next free
       unfolding after-entry turn-after
       walk-more f then et =
           let i = e .task in
-          let c = w .course in
+          let c = w .ledger in
           let next-is : then .next ≡ next-frame (task-at ts i) (c .next i) = ap (λ (x : Turn). x .next) et ∙ ap₂ next-frame (sym er) (w .nexts i m) in
           let free-is : then .«free_from» ≡ e .tick + task-at ts i .period =
           ap (λ (x : Turn). x .«free_from») et ∙ ap (λ (t : Task). e .tick + t .period) (sym er) in
           let onward : n + (j + 1) ≡ suc (n + j) = omega arith in
           record {
-            course = after-entry ts c e;
+            ledger = after-entry ts c e;
             in-row = omega arith;
             next-room = rw (length-set next i (then .next)) (w .next-room);
             free-room = rw (length-set free i (then .«free_from»)) (w .free-room);

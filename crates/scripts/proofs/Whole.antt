@@ -11,7 +11,7 @@ use Rattle.check_word.specs.Division.{body}
 use Rattle.lent.specs.Checks.{Check, first-refusal}
 use Rattle.lent.proofs.Checks.{none-first, some-first}
 use Rattle.theory.specs.Tasks.{Task}
-use Rattle.plays.specs.Items.{first-course, first-frame-checks, entry-checks, item-checks}
+use Rattle.plays.specs.Items.{first-ledger, first-frame-checks, entry-checks, item-checks}
 use Rattle.scripts.specs.Reading.{firsts-in, script-in, well-made}
 use Rattle.scripts.specs.Judging.{judged-by, judged, judgement}
 use Rattle.scripts.specs.declared.Judgement.the-variants.{Sound, Malformed, Unsound}
@@ -60,7 +60,7 @@ module _ (ts : List Task) (n : ℕ) (as-many : length ts ≡ n) (s : List ℕ) w
     firsts = first-frame-checks ts 0 fs
 
     abbrev entries : List (Check ℕ)
-    entries = entry-checks ts n (first-course fs) (script-in n s .entries)
+    entries = entry-checks ts n (first-ledger fs) (script-in n s .entries)
 
     items-are : judgement ts s ≡ judged (firsts ++ entries)
     unfolding judgement item-checks script-in

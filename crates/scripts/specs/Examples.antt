@@ -10,7 +10,7 @@ use Rattle.records.specs.Rows.{packed, unpacked, total}
 use Rattle.records.specs.Sealed.{whole-bytes, sealed-record, some-set}
 use Rattle.theory.specs.Tasks.{Task, task-at, frame-count, next-frame, frame}
 use Rattle.plays.specs.Script.{Script}
-use Rattle.plays.specs.Items.{standing, first-course, after-entry, in-range, in-order, by-rules, sound, first-frame-checks, entry-checks, item-checks}
+use Rattle.plays.specs.Items.{standing, first-ledger, after-entry, in-range, in-order, by-rules, sound, first-frame-checks, entry-checks, item-checks}
 use Rattle.plays.specs.declared.Entry.{Entry}
 use Rattle.scripts.specs.Format.{script-width}
 use Rattle.scripts.specs.Reading.{firsts-in, entry-count-in, entry-with, entry-at-start, entries-in, script-in, there, well-made}
@@ -50,7 +50,7 @@ unfolding bytes script-width firsts-in entry-count-in entry-with entry-at-start 
 reads = tt
 
 judges : Unit {0}
-unfolding reads first-refusal task-at frame-count next-frame frame standing first-course after-entry in-range in-order by-rules sound first-frame-checks entry-checks item-checks judged judgement
+unfolding reads first-refusal task-at frame-count next-frame frame standing first-ledger after-entry in-range in-order by-rules sound first-frame-checks entry-checks item-checks judged judgement
 judges = tt
 
 -- 30 bytes: two first frames and the count, three entries, no fill, the check word

@@ -44,12 +44,12 @@ unfoldable pub there : ℕ → ℕ → List ℕ → Bool
 there n m s = leb (script-width n m) (length (bits-of (body s)))
 
 -- how many entries there are; none where the count is not there
-unfoldable pub entry-count : List ℕ → ℕ → ℕ
-entry-count s n = cond (there n 0 s) (entry-count-in n (bits-of (body s))) 0
+unfoldable pub entry-count : ℕ → List ℕ → ℕ
+entry-count n s = cond (there n 0 s) (entry-count-in n (bits-of (body s))) 0
 
 -- entry j; a blank one where its bits are not there
-unfoldable pub entry-at : List ℕ → ℕ → ℕ → Entry
-entry-at s n j = cond (there n (suc j) s) (entry-at-start (drop (script-width n j) (bits-of (body s)))) no-entry
+unfoldable pub entry-at : ℕ → List ℕ → ℕ → Entry
+entry-at n s j = cond (there n (suc j) s) (entry-at-start (drop (script-width n j) (bits-of (body s)))) no-entry
 
 -- a byte string is made as the script of n tasks is: its count is there, its length is that of so many entries, its check word is right, and no fill bit is set
 unfoldable pub well-made : ℕ → List ℕ → Bool

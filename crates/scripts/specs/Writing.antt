@@ -3,17 +3,19 @@ use mathlib.Core.Bool.{Bool}
 use mathlib.Core.List.{List, [], _∷_, _++_}
 use mathlib.Core.Path.{_≡_}
 use Prim.Native.Nat.{ℕ, _^_, _≤_, _<_}
-use lib.ListN.{length, getD}
+use lib.ListN.{length, getD, set, replicate}
 use Rattle.records.specs.Rows.{packed}
 use Rattle.records.specs.Sealed.{sealed-record}
 use Rattle.sheet.specs.Constants.{most-tasks, greatest-time}
 use Rattle.plays.specs.Script.{Script, no-entry}
 use Rattle.plays.specs.declared.Entry.{Entry}
-use Rattle.scripts.specs.Format.{first-frame-width, entry-count-width, first-frame-widths, count-widths, entry-widths}
+use Rattle.scripts.specs.Format.{first-frame-width, entry-count-width, first-frame-widths, count-widths, entry-widths, task-field, tick-field, work-field, lock-field}
 
--- the numbers of an entry, in the order of its fields
+-- the numbers of an entry, each where its field stands
 abbrev pub entry-numbers : Entry → List ℕ
-entry-numbers e = e .task ∷ e .tick ∷ e .work ∷ e .lock ∷ []
+entry-numbers e =
+    let blank : List ℕ = replicate (length entry-widths) 0 in
+    set (set (set (set blank task-field (e .task)) tick-field (e .tick)) work-field (e .work)) lock-field (e .lock)
 
 -- entries one behind the other
 unfoldable pub entries-bits : List Entry → List Bool

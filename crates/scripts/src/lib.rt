@@ -12,12 +12,13 @@ ghost use Rattle.lent.specs.Checks.{first-refusal};
 ghost use Rattle.lent.specs.Lent.{laid};
 ghost use Rattle.records.specs.Rows.{total};
 ghost use Rattle.records.specs.Sealed.{sealed-size};
-ghost use Rattle.theory.specs.Tasks.{frame-count, frame, next-frame};
+ghost use Rattle.theory.specs.Tasks.{frame-count, frame};
 ghost use Rattle.sheet.specs.Constants.{most-tasks};
 ghost use Rattle.sheet.specs.Tasks.{task-in, records-of};
-ghost use Rattle.plays.specs.Items.{standing, first-course, first-frame-checks, entry-checks};
+ghost use Rattle.plays.specs.Items.{standing, first-ledger, first-frame-checks, entry-checks};
 ghost use Rattle.scripts.specs.Format.{first-frame-widths, count-widths, entry-widths, entry-count-width, script-width};
 ghost use Rattle.scripts.specs.Reading.{firsts-in, script-in, entry-count, entry-at, well-made};
+ghost use Rattle.scripts.specs.Writing.{entry-numbers};
 ghost use Rattle.scripts.specs.Judging.{judged, judgement};
 ghost use Rattle.scripts.specs.Inside.Steps.{sound-turn, turn-after};
 use bits::Taken;
@@ -39,25 +40,25 @@ pub enum Judgement {
 pub struct Format;
 
 impl Format {
-    pub const FIRST_FRAME_WIDTH: usize = 4;
+    const FIRST_FRAME_WIDTH: usize = 4;
 
-    pub const ENTRY_COUNT_WIDTH: usize = 24;
+    const ENTRY_COUNT_WIDTH: usize = 24;
 
-    pub const TASK_WIDTH: usize = 4;
+    const TASK_WIDTH: usize = 4;
 
     // How many fields an entry has, and where each stands.
-    pub const ENTRY_FIELDS: usize = 4;
+    const ENTRY_FIELDS: usize = 4;
 
-    pub const TASK_FIELD: usize = 0;
+    const TASK_FIELD: usize = 0;
 
-    pub const TICK_FIELD: usize = 1;
+    const TICK_FIELD: usize = 1;
 
-    pub const WORK_FIELD: usize = 2;
+    const WORK_FIELD: usize = 2;
 
-    pub const LOCK_FIELD: usize = 3;
+    const LOCK_FIELD: usize = 3;
 
     // How many bits an entry has.
-    pub const ENTRY_WIDTH: usize = Format::TASK_WIDTH + 3 * Sheet::TIME_WIDTH;
+    const ENTRY_WIDTH: usize = Format::TASK_WIDTH + 3 * Sheet::TIME_WIDTH;
 
     // The layout, stated once: the constants and the numbers of the definitions are the same. As many first frames as a set has slots for.
     pub fn first_frame_widths() -> [usize; Sheet::TASK_ROOM]
@@ -85,7 +86,7 @@ impl Format {
 }
 
 // How many bits the first frames, the count and so many entries take.
-pub fn script_width(tasks: u32, entries: u32) -> usize
+fn script_width(tasks: u32, entries: u32) -> usize
     ensures { λ r. ⌜ r ≡ script-width tasks entries ⌝ }
 {
     Format::FIRST_FRAME_WIDTH * tasks as usize
@@ -124,7 +125,7 @@ fn count_taken(script: &[u8], tasks: u32) -> Taken
 
 // How many entries a script of so many tasks has; none where the count is not there.
 pub fn entry_count(script: &[u8], tasks: u32) -> u32
-    ensures { λ r. ⌜ r ≡ entry-count (now (script .entry)) tasks ⌝ }
+    ensures { λ r. ⌜ r ≡ entry-count tasks (now (script .entry)) ⌝ }
 {
     match count_taken(script, tasks) {
         Taken::Value(count) => count,
@@ -134,7 +135,7 @@ pub fn entry_count(script: &[u8], tasks: u32) -> u32
 
 // Entry j of a script of so many tasks; a blank one where its bits are not there.
 pub fn entry_at(script: &[u8], tasks: u32, j: u32) -> Entry
-    ensures { λ r. ⌜ r ≡ entry-at (now (script .entry)) tasks j ⌝ }
+    ensures { λ r. ⌜ r ≡ entry-at tasks (now (script .entry)) j ⌝ }
 {
     let mut numbers = [0u32; Format::ENTRY_FIELDS];
     let widths = Format::entry_widths();
@@ -151,6 +152,18 @@ pub fn entry_at(script: &[u8], tasks: u32, j: u32) -> Entry
         work: numbers[Format::WORK_FIELD],
         lock: numbers[Format::LOCK_FIELD],
     }
+}
+
+// The numbers of an entry, each where its field stands.
+pub fn entry_numbers(entry: Entry) -> [u32; Format::ENTRY_FIELDS]
+    ensures { λ r. ⌜ r ≡ entry-numbers entry ⌝ }
+{
+    let mut numbers = [0u32; Format::ENTRY_FIELDS];
+    numbers[Format::TASK_FIELD] = entry.task;
+    numbers[Format::TICK_FIELD] = entry.tick;
+    numbers[Format::WORK_FIELD] = entry.work;
+    numbers[Format::LOCK_FIELD] = entry.lock;
+    numbers
 }
 
 // Whether a byte string is made as a script of so many tasks is.
@@ -184,13 +197,6 @@ fn first_frames(script: &[u8], tasks: u32) -> [u32; Sheet::TASK_ROOM]
     firsts
 }
 
-// How many frames a task has.
-fn frame_count(task: Task) -> usize
-    ensures { λ r. ⌜ r ≡ frame-count (task-in task) ⌝ }
-{
-    sheet::in_use(task.frame_count as usize, Sheet::FRAME_ROOM)
-}
-
 // Whether each first frame is a frame of its task.
 fn judge_firsts(
     tasks: [Task; Sheet::TASK_ROOM],
@@ -203,7 +209,7 @@ fn judge_firsts(
     let mut i: usize = 0;
     while i < count {
         let task = tasks[i];
-        if frame_count(task) <= firsts[i] as usize {
+        if sheet::frame_count(task) <= firsts[i] as usize {
             return Judgement::Unsound(i as u32);
         }
         i += 1;
@@ -234,14 +240,6 @@ fn frame(task: Task, k: u32) -> u32
     frames[k as usize]
 }
 
-// The frame that follows it.
-fn next_frame(task: Task, k: u32) -> u32
-    requires { ⌜ k < frame-count (task-in task) ⌝ }
-    ensures { λ r. ⌜ r ≡ next-frame (task-in task) k ⌝ }
-{
-    sheet::next_frame(k as usize, frame_count(task)) as u32
-}
-
 // Whether an entry of a task is in range, in order and by the run rules.
 fn sound(task: Task, turn: Turn, entry: Entry) -> bool
     requires { ⌜ turn .next < frame-count (task-in task) ⌝ }
@@ -265,7 +263,7 @@ fn after(task: Task, turn: Turn, entry: Entry) -> Turn
     ensures { λ r. ⌜ r ≡ turn-after (task-in task) turn entry ⌝ }
 {
     Turn {
-        next: next_frame(task, turn.next),
+        next: sheet::frame_after(task, turn.next),
         free_from: entry.tick as u64 + task.period as u64,
         behind: standing(entry) + 1,
     }
@@ -279,7 +277,7 @@ fn judge_entries(
     script: &[u8],
 ) -> Judgement
     requires { ⌜ (count ≤ most-tasks) × (well-made count (now script) ≡ true) × (first-refusal (first-frame-checks (map task-in (take count tasks)) 0 (take count firsts)) ≡ none) ⌝ }
-    ensures { λ r. ⌜ r ≡ judged (entry-checks (map task-in (take count tasks)) count (first-course (take count firsts)) (script-in count (now (script .entry)) .entries)) ⌝ }
+    ensures { λ r. ⌜ r ≡ judged (entry-checks (map task-in (take count tasks)) count (first-ledger (take count firsts)) (script-in count (now (script .entry)) .entries)) ⌝ }
 {
     let entries = entry_count(script, count);
     let mut next = firsts;
@@ -324,6 +322,7 @@ pub fn judge(set: TaskSet, script: &[u8]) -> Judgement
     match judge_firsts(tasks, count, firsts) {
         Judgement::Sound => judge_entries(tasks, n, firsts, script),
         Judgement::Unsound(i) => Judgement::Unsound(i),
+        // never: first frames are judged only where the bytes are made as a script is
         Judgement::Malformed => Judgement::Malformed,
     }
 }

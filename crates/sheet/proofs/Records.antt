@@ -1,13 +1,13 @@
 -- Tasks put into records and taken out again, and the slots of a record and of a set that are in use.
 use mathlib.Core.List.{List, [], _∷_, map}
 use mathlib.Core.Path.{_≡_, refl, sym, ap, ap₂, _∙_}
-use Prim.Native.Nat.{ℕ, _≤_, _-_, min}
+use Prim.Native.Nat.{ℕ, _≤_, _<_, min}
 use native.Mathlib.Decide.{decLe}
-use native.Mathlib.Nat.{min-eq-left, min-eq-right}
+use native.Mathlib.Nat.{min-eq-left, min-eq-right, mod-eq-of-lt}
 use native.Mathlib.Omega.{arith}
-use lib.ListN.{length, take, length-map}
-use lib.Seq.{take-at, take-all}
-use Rattle.theory.specs.Tasks.{Task}
+use lib.ListN.{length, getD, take, length-map, length-take}
+use lib.Seq.{take-at, take-all, getD-take}
+use Rattle.theory.specs.Tasks.{Task, frame-count, frame}
 use Rattle.sheet.specs.Constants.{most-tasks, most-frames}
 use Rattle.sheet.specs.Tasks.{task-in, record-of, records-of, set-with}
 use Rattle.sheet.specs.declared.Task.{Task as Record}
@@ -50,6 +50,23 @@ pub frames-used : (r : Record) (count : ℕ) → (count ≡ min (r .«frame_coun
     → take count (r .frames) ≡ task-in r .frames
 unfolding task-in
 frames-used r count e = rw (e .0) (taken-slots (r .frames) (r .«frame_count») most-frames (e .1))
+
+-- the count of frames in use is the task's
+pub frames-counted : (r : Record) (n : ℕ) → (n ≡ min (r .«frame_count») most-frames) × (length (r .frames) ≡ most-frames) → n ≡ frame-count (task-in r)
+unfolding frame-count task-in
+frames-counted r n used = used .0 ∙ sym (length-take (r .«frame_count») (r .frames) ∙ ap (min (r .«frame_count»)) (used .1))
+
+-- a frame of the task has its slot
+pub frame-there : (r : Record) (k : ℕ) → k < frame-count (task-in r) → k < length (r .frames)
+unfolding frame-count task-in
+frame-there r k h = omega (arith, length-take (r .«frame_count») (r .frames))
+
+-- and its time stands in it
+pub frame-is : (r : Record) (k : ℕ) → k < frame-count (task-in r) → getD (r .frames) k 0 ≡ frame (task-in r) k
+unfolding frame-count frame task-in
+frame-is r k h =
+    sym (ap (λ (m : ℕ). getD (task-in r .frames) m 0) (mod-eq-of-lt h)
+    ∙ getD-take (r .«frame_count») (r .frames) k 0 (omega (arith, length-take (r .«frame_count») (r .frames))))
 
 -- the records in use
 pub records-used : (s : TaskSet) (count : ℕ) → (count ≡ min (s .«task_count») most-tasks) × (length (s .tasks) ≡ most-tasks)

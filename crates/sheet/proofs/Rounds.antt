@@ -7,6 +7,7 @@ use native.Mathlib.Numerals.{add-one}
 use native.Mathlib.Decide.{decLt}
 use native.Mathlib.Omega.{arith}
 use borrow.Author.Tests.{lt-ltb, le-ltb}
+use Rattle.theory.specs.Tasks.{Task, frame-count, next-frame}
 use Rattle.sheet.specs.Tasks.{next-round}
 
 pub round-on : (k n : ℕ) → suc k < n → next-round k n ≡ suc k
@@ -39,6 +40,14 @@ module _ (k n r : ℕ) (k-in : k < 2 ^ 64) (n-in : n < 2 ^ 64) (e : r ≡ (k + 1
       go (inl q) = sym (round-ends k n (omega arith))
       go (inr (q, l)) = sym (round-ends k n l)
 
+-- it is no more than the round has numbers
+pub round-within : (k n : ℕ) → next-round k n ≤ n
+round-within k n = go (decLt (suc k) n)
+  where
+    go : Dec (suc k < n) → next-round k n ≤ n
+    go (yes l) = omega (arith, round-on k n l)
+    go (no l) = omega (arith, round-ends k n (omega arith))
+
 -- it goes round
 pub round-is : (k n : ℕ) → k < n → next-round k n ≡ suc k % n
 round-is k n h = go (decLt (suc k) n)
@@ -48,3 +57,8 @@ round-is k n h = go (decLt (suc k) n)
     go (no l) =
         let e : suc k ≡ n = omega arith in
         round-ends k n (omega arith) ∙ sym (ap (λ (m : ℕ). m % n) e ∙ mod-self n)
+
+-- as the frames of a task do
+pub next-is : (t : Task) (k : ℕ) → k < frame-count t → next-round k (frame-count t) ≡ next-frame t k
+unfolding next-frame
+next-is t k h = round-is k (frame-count t) h

@@ -1,7 +1,7 @@
 // The sheet: its constants, stated once, the task record, and the refusals by number.
 ghost use mathlib.Core.Path.{_≡_};
 ghost use Prim.Native.Nat.{min};
-ghost use Rattle.theory.specs.Tasks.{deadline-of, shortest-deadline};
+ghost use Rattle.theory.specs.Tasks.{frame-count, deadline-of, shortest-deadline};
 ghost use Rattle.sheet.specs.Pairs.{the-widths, the-limits, the-policies};
 ghost use Rattle.sheet.specs.Constants.{most-frames};
 ghost use Rattle.sheet.specs.Fields.{header-widths, fixed-widths, frame-widths};
@@ -247,6 +247,20 @@ pub fn next_frame(k: usize, count: usize) -> usize
         return next;
     }
     0
+}
+
+// How many frames a task has.
+pub fn frame_count(task: Task) -> usize
+    ensures { λ r. ⌜ r ≡ frame-count (task-in task) ⌝ }
+{
+    in_use(task.frame_count as usize, Sheet::FRAME_ROOM)
+}
+
+// The frame of a task that follows frame k, going round.
+pub fn frame_after(task: Task, k: u32) -> u32
+    ensures { λ r. ⌜ r ≡ next-round k (frame-count (task-in task)) ⌝ }
+{
+    next_frame(k as usize, frame_count(task)) as u32
 }
 
 // The deadline of frame k.

@@ -173,28 +173,37 @@ mem-total {js = job r′ k′ w′ ∷ js} {r} {k} {w} m = go (List·Memᴰ·cas
     go (inl e) later = let same : w ≡ w′ = cc in omega arith
     go (inr m) later = omega (arith, later m)
 
--- a job with work left after a tick had work left before
-pub serve-mem : (js : List Job) {r k w : ℕ} → List·Memᴰ (job r k (suc w)) (serve js) → (v : ℕ) × List·Memᴰ (job r k (suc v)) js
+-- a job that is there after a tick was there before, with as much work or more
+pub serve-mem : (js : List Job) {r k w : ℕ} → List·Memᴰ (job r k w) (serve js) → (v : ℕ) × List·Memᴰ (job r k v) js × (w ≤ v)
 unfolding serve
 serve-mem [] m = absurd (List·Memᴰ·not-nil m)
 serve-mem (job r′ k′ zero ∷ js) {r} {k} {w} m = go (List·Memᴰ·cases-cons m) (serve-mem js {r = r} {k = k} {w = w})
   where
-    go : (job r k (suc w) ≡ job r′ k′ zero) ⊎ List·Memᴰ (job r k (suc w)) (serve js)
-        → (List·Memᴰ (job r k (suc w)) (serve js) → (v : ℕ) × List·Memᴰ (job r k (suc v)) js)
-        → (v : ℕ) × List·Memᴰ (job r k (suc v)) (job r′ k′ zero ∷ js)
-    go (inl e) later = (w, List·Memᴰ·head e)
-    go (inr m) later = let (v, n) = later m in (v, List·Memᴰ·tail n)
+    go : (job r k w ≡ job r′ k′ zero) ⊎ List·Memᴰ (job r k w) (serve js) → (List·Memᴰ (job r k w) (serve js) → (v : ℕ) × List·Memᴰ (job r k v) js × (w ≤ v))
+        → (v : ℕ) × List·Memᴰ (job r k v) (job r′ k′ zero ∷ js) × (w ≤ v)
+    go (inl e) later = (w, List·Memᴰ·head e, le-refl w)
+    go (inr n) later = let (v, there, more) = later n in (v, List·Memᴰ·tail there, more)
 serve-mem (job r′ k′ (suc w′) ∷ js) {r} {k} {w} m = go (List·Memᴰ·cases-cons m)
   where
-    go : (job r k (suc w) ≡ job r′ k′ w′) ⊎ List·Memᴰ (job r k (suc w)) js → (v : ℕ) × List·Memᴰ (job r k (suc v)) (job r′ k′ (suc w′) ∷ js)
-    go (inl e) = let same : job r k (suc w′) ≡ job r′ k′ (suc w′) = cc in (w′, List·Memᴰ·head same)
-    go (inr m) = (w, List·Memᴰ·tail m)
+    go : (job r k w ≡ job r′ k′ w′) ⊎ List·Memᴰ (job r k w) js → (v : ℕ) × List·Memᴰ (job r k v) (job r′ k′ (suc w′) ∷ js) × (w ≤ v)
+    go (inl e) =
+        let same : job r k (suc w′) ≡ job r′ k′ (suc w′) = cc in
+        let left : w ≡ w′ = cc in
+        (suc w′, List·Memᴰ·head same, omega arith)
+    go (inr n) = (w, List·Memᴰ·tail n, le-refl w)
+
+pub serve-lane-mem : (b : Bool) (l : Lane) {r k w : ℕ} → List·Memᴰ (job r k w) (serve-lane b l .jobs) → (v : ℕ) × List·Memᴰ (job r k v) (l .jobs) × (w ≤ v)
+unfolding serve-lane
+serve-lane-mem false l {w} m = (w, m, le-refl w)
+serve-lane-mem true l m = serve-mem (l .jobs) m
 
 module _ (P : ℕ → ℕ → Type 0) where
   pub unfinished-none : (js : List Job) → total js ≡ 0 → Unfinished P js
   unfinished-none js e r k w m = let z : ⊥ = omega (arith, mem-total m) in absurd z
 
   pub unfinished-serve : (b : Bool) (l : Lane) → Unfinished P (l .jobs) → Unfinished P (serve-lane b l .jobs)
-  unfolding serve-lane
-  unfinished-serve false l h r k w m = h r k w m
-  unfinished-serve true l h r k w m = let (v, n) = serve-mem (l .jobs) m in h r k v n
+  unfinished-serve b l h r k w m = go (serve-lane-mem b l m)
+    where
+      go : (v : ℕ) × List·Memᴰ (job r k v) (l .jobs) × (suc w ≤ v) → P r k
+      go (zero, n, more) = let z : ⊥ = omega arith in absurd z
+      go (suc v, n, more) = h r k v n

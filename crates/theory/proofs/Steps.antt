@@ -107,6 +107,11 @@ module _ (set : List Task) (run : Run) (t q : ℕ) where
   abbrev seen-here : Option ℕ → Lane
   seen-here o = release-lane (task-at set q) t o (state-at set run t .lanes q)
 
+  -- without a release the lane is the one before
+  pub unreleased : run .input t .release-of q ≡ none → seen-at set run t .lanes q ≡ state-at set run t .lanes q
+  unfolding release-lane
+  unreleased e = seen-lane set run t q ∙ ap seen-here e
+
   -- a lane after a tick, from the lane before it
   pub lane-after : {o : Option ℕ} → run .input t .release-of q ≡ o
       → (b : Bool) × (state-at set run (suc t) .lanes q ≡ serve-lane b (release-lane (task-at set q) t o (state-at set run t .lanes q)))

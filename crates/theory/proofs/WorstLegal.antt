@@ -9,11 +9,11 @@ use native.Mathlib.Omega.{arith}
 use lib.ListN.{length}
 use Rattle.theory.specs.Tasks.{Task, task-at, frame-count, frame, start-frame, AdmittedTask, Admitted}
 use Rattle.theory.specs.Analysis.{blocker, releases}
-use Rattle.theory.specs.Runs.{Lane, Run, release-lane, pick, start-state, state-at, seen-at, longest-stretch, Legal}
+use Rattle.theory.specs.Runs.{Lane, Run, release-lane, pick, tick, start-state, state-at, seen-at, longest-stretch, Legal}
 use Rattle.theory.specs.WorstRun.{blocks, role, worst-first, once, every-period, worst-stretch, worst-run}
 use Rattle.theory.proofs.Work.{frame-mod, next-frame-after, start-is, largest-is}
 use Rattle.theory.proofs.Demand.{releases-zero}
-use Rattle.theory.proofs.Steps.{next-after, free-after}
+use Rattle.theory.proofs.Steps.{next-after, free-after, state-step}
 use Rattle.theory.proofs.Soundness.{period-of}
 use Rattle.theory.proofs.WorstReleases.{once-at, once-else, Periodic, releases-now, releases-none, periodic, period-zero, RoleOf, role-above, role-own, is-above, is-own, is-blocker, is-absent, role-of, release-above, release-own, release-blocker, release-absent, none-at-zero}
 use Rattle.theory.proofs.WorstFirstTick.{first-stretch-fits}
@@ -150,6 +150,13 @@ module _ (set : List Task) (admitted : Admitted set) (p : ℕ) (in-set : p < len
       go : (o : Option ℕ) → worst-stretch set o (suc t) ≡ 0
       go none = refl
       go (some b) = refl
+
+  -- so a tick after the first starts none
+  pub later-step : (t : ℕ) → state-at set (worst-run set p k) (suc (suc t))
+      ≡ tick (pick set (seen-at set (worst-run set p k) (suc t))) 0 (seen-at set (worst-run set p k) (suc t))
+  later-step t =
+      state-step set worst (suc t)
+      ∙ ap (λ new. tick (pick set (seen-at set worst (suc t))) new (seen-at set worst (suc t))) (no-later-stretch t)
 
   -- the worst run is a run of the set
   pub worst-legal : Legal set (worst-run set p k)

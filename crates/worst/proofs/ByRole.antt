@@ -15,7 +15,7 @@ use Rattle.plays.specs.WorstScript.{worst-lock}
 use Rattle.worst.specs.declared.Turn.{Turn}
 use Rattle.worst.specs.Inside.Plans.{turn-for, work-with, turn-release, SoundTurn}
 use Rattle.worst.proofs.Releases.{tick-of, release-at, release-none}
-use Rattle.worst.proofs.Frames.{work-free, work-locked}
+use Rattle.worst.proofs.JobWork.{work-free, work-locked}
 
 -- a release with no second one up to the end
 once-same : (t : Task) (turn : Turn) (end : ℕ) → turn .step ≡ suc end → (now : ℕ) → now ≤ end

@@ -9,7 +9,7 @@ use lib.Seq.{getD-take, length-take-le}
 use Rattle.records.specs.Rows.{packed}
 use Rattle.records.specs.Faces.{end-of, lawful, row-fits}
 use Rattle.records.specs.Inside.Steps.{Placed}
-use Rattle.records.proofs.Packing.{Fit, no-field, one-more}
+use Rattle.records.proofs.Packing.{no-field, one-more}
 use Rattle.records.proofs.Parts.{take-replicate}
 use Rattle.records.proofs.Placing.{placed-behind}
 use Rattle.records.proofs.Putting.{row-can, room-behind}
@@ -17,7 +17,7 @@ use Rattle.sheet.specs.Constants.{most-tasks}
 use Rattle.plays.specs.declared.Entry.{Entry}
 use Rattle.scripts.specs.Format.{first-frame-width, first-frame-widths, count-widths, entry-widths}
 use Rattle.scripts.specs.Writing.{entry-numbers, entries-bits, EntryFits}
-use Rattle.scripts.proofs.ScriptBits.{fit-alike}
+use Rattle.scripts.proofs.ScriptBits.{fit-alike, fit-entry}
 use Rattle.worst.specs.declared.Plan.{Plan}
 use Rattle.worst.specs.Inside.Plans.{SoundPlan, plan-entries, head-bits}
 use Rattle.worst.proofs.Counts.{entries-few}
@@ -28,22 +28,14 @@ entry-lawful : lawful entry-widths ≡ true
 unfolding lawful
 entry-lawful = refl
 
-entry-fit : (e : Entry) → EntryFits e → Fit entry-widths (entry-numbers e)
-entry-fit e f =
-    let task : e .task < 2 ^ 4 = omega (arith, f .task-fits) in
-    let tick : e .tick < 2 ^ 20 = omega (arith, f .tick-fits) in
-    let work : e .work < 2 ^ 20 = omega (arith, f .work-fits) in
-    let lock : e .lock < 2 ^ 20 = omega (arith, f .lock-fits) in
-    one-more task (one-more tick (one-more work (one-more lock no-field)))
-
-module _ (e : Entry) (ws : List ℕ) (ew : ws ≡ entry-widths) where
+module _ (e : Entry) (ws ns : List ℕ) (ew : ws ≡ entry-widths) (en : ns ≡ entry-numbers e) where
   -- an entry that fits can be put where there is room
-  pub entry-can : (size at : ℕ) → EntryFits e → at + length (packed entry-widths (entry-numbers e)) ≤ end-of size → row-fits size at ws (entry-numbers e) ≡ true
-  entry-can size at f h = rw ew (row-can size at entry-lawful (entry-fit e f) h)
+  pub entry-can : (size at : ℕ) → EntryFits e → at + length (packed entry-widths (entry-numbers e)) ≤ end-of size → row-fits size at ws ns ≡ true
+  entry-can size at f h = rw (ew, en) (row-can size at entry-lawful (fit-entry e f) h)
 
   -- the row that was put is the entry
-  pub entry-placed : {s t : List ℕ} {at next : ℕ} → Placed s at (packed ws (entry-numbers e)) t next → Placed s at (packed entry-widths (entry-numbers e)) t next
-  entry-placed p = rw ew at p
+  pub entry-placed : {s t : List ℕ} {at next : ℕ} → Placed s at (packed ws ns) t next → Placed s at (packed entry-widths (entry-numbers e)) t next
+  entry-placed p = rw (ew, en) at p
 
 -- entries one behind the other
 entries-behind : (es fs : List Entry) → entries-bits (es ++ fs) ≡ entries-bits es ++ entries-bits fs

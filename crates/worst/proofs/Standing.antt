@@ -12,7 +12,7 @@ use Rattle.plays.specs.declared.Entry.{Entry}
 use Rattle.worst.specs.declared.Plan.{Plan}
 use Rattle.worst.specs.Inside.Plans.{work-with, SoundTurn, plan-turn, plan-task, plan-row}
 use Rattle.worst.proofs.Releases.{tick-of, Reached, reached-none, reached-later, reached-more}
-use Rattle.worst.proofs.Frames.{work-round}
+use Rattle.worst.proofs.JobWork.{work-round}
 use Rattle.worst.proofs.Counts.{row-at, row-quiet}
 
 -- the releases of task q before tick u are behind

@@ -20,7 +20,7 @@ use Rattle.scripts.proofs.ScriptBits.{length-entry, length-entries-bits}
 use Rattle.worst.specs.declared.Plan.{Plan}
 use Rattle.worst.specs.Inside.Plans.{plan-turn, plan-task, SoundPlan, plan-row, plan-entries}
 use Rattle.worst.specs.Inside.Steps.{Soonest}
-use Rattle.worst.proofs.Frames.{work-small}
+use Rattle.worst.proofs.JobWork.{work-small}
 use Rattle.worst.proofs.Putting.{entry-behind}
 use Rattle.worst.proofs.Done.{done, done-none, done-more, done-part, skip-here, skip-later, skip-all}
 use Rattle.worst.proofs.Standing.{Stand, entry-now, stand-start, stand-later, stand-quiet, stand-in, stand-row, stand-moved, stand-other}

@@ -4,7 +4,7 @@ ghost use mathlib.Core.List.{[], map};
 ghost use mathlib.Core.Path.{_≡_};
 ghost use Prim.Native.Nat.{_+_, _≤_, _<_};
 ghost use lib.ListN.{length};
-ghost use Rattle.theory.specs.Tasks.{frame-count, largest, largest-frame, next-frame};
+ghost use Rattle.theory.specs.Tasks.{frame-count};
 ghost use Rattle.lent.specs.Lent.{answered, left-after};
 ghost use Rattle.records.specs.Rows.{packed};
 ghost use Rattle.records.specs.Faces.{end-of, row-fits};
@@ -78,26 +78,12 @@ const BLOCKER_AT: u32 = 0;
 
 const OTHERS_AT: u32 = BLOCKER_AT + 1;
 
-// The lowest-numbered largest frame of a task.
-fn largest_frame(task: Task, most: u32) -> u32
-    requires { ⌜ most ≡ largest (task-in task .frames) ⌝ }
-    ensures { λ r. ⌜ r ≡ largest-frame (task-in task) ⌝ }
-{
-    let frames = task.frames;
-    let count = sheet::in_use(task.frame_count as usize, Sheet::FRAME_ROOM);
-    for k in 0..count {
-        if frames[k] == most {
-            return k as u32;
-        }
-    }
-    0
-}
-
 // The releases of the task at place q: a higher task's from tick 1 on, a period apart, the frame's own job at tick 1, the blocker's before all others.
 fn turn_of(case: Case, q: u32, task: Task, shape: Shape) -> Turn
     requires { ⌜ (case .end ≤ greatest-time) × (shape ≡ shape-of (task-in task)) ⌝ }
     ensures { λ r. ⌜ r ≡ turn-for (task-in task) (case .frame) (case .end) (role-by (case .place) (case .blocker) q) ⌝ }
 {
+    // behind the last tick of the run: there is no further release
     let behind = case.end + 1;
     if q < case.place {
         return Turn {
@@ -119,7 +105,7 @@ fn turn_of(case: Case, q: u32, task: Task, shape: Shape) -> Turn
         return Turn {
             due: BLOCKER_AT,
             step: behind,
-            next: largest_frame(task, shape.largest),
+            next: admission::largest_frame(task),
             lock: task.lock,
         };
     }
@@ -226,7 +212,7 @@ fn put_entry(bytes: &mut [u8], at: usize, entry: Entry) -> usize
     ensures { λ r. ⌜ Placed (now (bytes .entry)) at (packed entry-widths (entry-numbers entry)) (now (bytes .exit)) r ⌝ }
 {
     let widths = Format::entry_widths();
-    let numbers = [entry.task, entry.tick, entry.work, entry.lock];
+    let numbers = scripts::entry_numbers(entry);
     put(bytes, at, &widths, &numbers)
 }
 
@@ -256,15 +242,6 @@ fn work(task: Task, k: u32, lock: u32) -> u32
     lock
 }
 
-// The frame that follows frame k of a task.
-fn following(task: Task, k: u32) -> u32
-    requires { ⌜ k < frame-count (task-in task) ⌝ }
-    ensures { λ r. ⌜ r ≡ next-frame (task-in task) k ⌝ }
-{
-    let count = sheet::in_use(task.frame_count as usize, Sheet::FRAME_ROOM);
-    sheet::next_frame(k as usize, count) as u32
-}
-
 // The entries in their order: each is of the task that is released next.
 fn put_entries(bytes: &mut [u8], at: usize, plan: Plan) -> usize
     requires { ⌜ SoundPlan plan × (at + length (entries-bits (plan-entries plan)) ≤ end-of (length (now bytes))) ⌝ }
@@ -292,7 +269,7 @@ fn put_entries(bytes: &mut [u8], at: usize, plan: Plan) -> usize
         };
         end = put_entry(bytes, end, entry);
         due[i] = tick + steps[i];
-        next[i] = following(task, k);
+        next[i] = sheet::frame_after(task, k);
         i = soonest(&due, count);
         tick = due[i];
     }

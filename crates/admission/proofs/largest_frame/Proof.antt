@@ -1,85 +1,47 @@
--- `largest_frame` meets its contract: frames k on are left to look at.
-use mathlib.Core.Path.{_≡_, refl}
-use Prim.Native.Nat.{_≤_, _-_}
+-- `largest_frame` meets its contract.
+use mathlib.Core.List.{List}
+use mathlib.Core.Path.{_≡_, ap, _∙_}
+use Prim.Native.Nat.{ℕ, _≤_}
 use native.Mathlib.Omega.{arith}
-use denote.Ref.{now}
-use lib.ListN.{length, take}
-use Rattle.theory.specs.First.{first}
-use Rattle.theory.specs.Tasks.{frame-count}
+use lib.ListN.{length}
+use Rattle.theory.specs.Tasks.{largest-frame}
+use Rattle.sheet.specs.Constants.{most-frames}
+use Rattle.sheet.specs.Tasks.{task-in}
+use Rattle.sheet.proofs.Records.{frames-used}
 use Rattle.admission.specs.Inside.Frames.{of-frames}
-use Rattle.admission.proofs.Rows.{search-hits, search-goes-on, search-ends}
-use Rattle.admission.proofs.Reasons.{has-largest, all-frames, largest-here, largest-not-here, largest-frame-by}
+use Rattle.admission.proofs.Reasons.{largest-frame-few}
+use Rattle.admission.proofs.Starts.{largest-of-frames}
 use borrow.Author.Needs.{needs}
 use Rattle.admission.proofs.largest_frame.Statement.{statement}
 use Rattle.admission.proofs.largest_frame.Tie as tie
 
-abbrev Inv-loop : tie.InvT-loop
-Inv-loop frames count most k₀ k =
-    (k ≤ count)
-    × (first k (count - k) (has-largest (of-frames (take count frames)))
-    ≡ first 0 (frame-count (of-frames (take count frames))) (has-largest (of-frames (take count frames))))
+-- the array of a task's frames has its eight places
+long : (c : tie.After-in-use) → length (c .before .before .before .args .task .frames) ≡ most-frames
+long c = search needs
 
-abbrev μ-loop : tie.MeasureT-loop
-μ-loop frames count most k₀ k = count - k
+cast-in-use : tie.Need-cast-in-use
+cast-in-use c = search needs
 
-returns : tie.Need-returns Inv-loop μ-loop
+in-use-requires : tie.Need-in-use-requires
+in-use-requires c κs = search needs
+
+first-largest-requires : tie.Need-first-largest-requires
+first-largest-requires c κs = (search needs, omega arith)
+
+cast-result : tie.Need-cast-result
+cast-result c =
+    let u = c .before .before in
+    let r = u .before .before .before .args .task in
+    let there : u .in-use .result ≤ length (r .frames) = omega (arith, long u) in
+    omega (arith, largest-frame-few (r .frames) (u .in-use .result) there)
+
+returns : tie.Need-returns
 returns c =
-    let at = c .before .before .before in
-    let a = at .before .before .args in
-    let there : a .count ≤ length (now (a .frames)) = omega arith in
-    let inside = c .before .before .loop-test .taken in
-    largest-frame-by _ _ there
-    (search-hits _ _ _ (at .loop .inv .1) inside (largest-here _ _ there _ _ _ (at .before .largest .ensures) inside refl (c .if1 .taken)))
-
-returns-2 : tie.Need-returns-2 Inv-loop μ-loop
-returns-2 c =
-    let a = c .before .before .before .args in
-    let there : a .count ≤ length (now (a .frames)) = omega arith in
-    largest-frame-by _ _ there (search-ends _ _ _ (c .before .loop .inv .1) (c .loop-test .left))
-
-largest-requires : tie.Need-largest-requires Inv-loop μ-loop
-largest-requires c κs = search needs
-
-loop-holds : tie.Need-loop-holds Inv-loop μ-loop
-loop-holds c =
-    let a = c .before .args in
-    let there : a .count ≤ length (now (a .frames)) = omega arith in
-    (search needs, all-frames _ _ there _)
-
-mul-if1 : tie.Need-mul-if1 Inv-loop μ-loop
-mul-if1 c = search needs
-
-element-copy-out-if1 : tie.Need-element-copy-out-if1 Inv-loop μ-loop
-element-copy-out-if1 c = search needs
-
-add-k : tie.Need-add-k Inv-loop μ-loop
-add-k c = search needs
-
-loop-less : tie.Need-loop-less Inv-loop μ-loop
-loop-less c = search needs
-
-loop-again : tie.Need-loop-again Inv-loop μ-loop
-loop-again c =
-    let at = c .before .before .before in
-    let a = at .before .before .args in
-    let there : a .count ≤ length (now (a .frames)) = omega arith in
-    let inside = c .before .before .loop-test .taken in (
-      search needs,
-      search-goes-on _ _ _ (at .loop .inv .1) inside (largest-not-here _ _ there _ _ _ (at .before .largest .ensures) inside refl (c .if1 .left)),
-    )
+    let u = c .before .before in
+    let r = u .before .before .before .args .task in
+    c .first-largest .ensures
+    ∙ ap (λ (fs : List ℕ). largest-frame (of-frames fs)) (frames-used r _ (u .in-use .ensures, long u))
+    ∙ largest-of-frames (task-in r)
 
 pub largest-frame-spec : {M : Type 1} → statement M
-largest-frame-spec =
-    tie.close
-    (tie.spec
-    Inv-loop
-    μ-loop
-    largest-requires
-    loop-holds
-    mul-if1
-    element-copy-out-if1
-    returns
-    add-k
-    loop-less
-    loop-again
-    returns-2)
+largest-frame-spec = tie.close (tie.spec cast-in-use in-use-requires first-largest-requires cast-result returns)

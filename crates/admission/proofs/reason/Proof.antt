@@ -30,26 +30,26 @@ there : (c : tie.Start Inv-loop μ-loop) → c .args .count ≤ length (now (c .
 there c = omega arith
 
 -- the largest frame is small
-few : (c : tie.After-largest-frame Inv-loop μ-loop) → c .largest-frame .result ≤ most-frames
+few : (c : tie.After-first-largest Inv-loop μ-loop) → c .first-largest .result ≤ most-frames
 few c =
     let a = c .before .args in
-    omega (arith, c .largest-frame .ensures, largest-frame-few (now (a .frames)) (a .count) (there (c .before)), c .before .pre .1)
+    omega (arith, c .first-largest .ensures, largest-frame-few (now (a .frames)) (a .count) (there (c .before)), c .before .pre .1)
 
 returns : tie.Need-returns Inv-loop μ-loop
 returns c =
     let at = c .before .before .before in
     let ok = there (at .before .before) in
     let by-other = exceeded-by _ _ ok _ _ _ (c .before .exceeding .ensures) (c .if1 .taken) in
-    reason-at _ _ ok _ (at .before .largest-frame .ensures) _ _
+    reason-at _ _ ok _ (at .before .first-largest .ensures) _ _
     (search-hits _ _ _ (at .loop .inv .2) (c .before .before .loop-test .taken) (some-found by-other)) by-other
 
 returns-2 : tie.Need-returns-2 Inv-loop μ-loop
 returns-2 c =
     let at = c .before in
-    reason-none _ _ (there (at .before .before)) _ (at .before .largest-frame .ensures) (search-ends _ _ _ (at .loop .inv .2) (c .loop-test .left))
+    reason-none _ _ (there (at .before .before)) _ (at .before .first-largest .ensures) (search-ends _ _ _ (at .loop .inv .2) (c .loop-test .left))
 
-largest-frame-requires : tie.Need-largest-frame-requires Inv-loop μ-loop
-largest-frame-requires c κs = search needs
+first-largest-requires : tie.Need-first-largest-requires Inv-loop μ-loop
+first-largest-requires c κs = search needs
 
 add-n-end : tie.Need-add-n-end Inv-loop μ-loop
 add-n-end c = search needs
@@ -63,7 +63,7 @@ exceeding-requires c κs =
     let a = at .before .before .args in
     let some-frame : 1 ≤ a .count = omega (arith, at .loop .inv .0, c .loop-test .taken) in
     let inside = largest-frame-in (now (a .frames)) (a .count) (there (at .before .before)) some-frame in
-    (search needs, omega arith, omega (arith, at .before .largest-frame .ensures), omega (arith, c .loop-test .taken))
+    (search needs, omega arith, omega (arith, at .before .first-largest .ensures), omega (arith, c .loop-test .taken))
 
 cast-t8 : tie.Need-cast-t8 Inv-loop μ-loop
 cast-t8 c = let small = few (c .before .before .before .before) in search needs
@@ -96,7 +96,7 @@ reason-spec =
     (tie.spec
     Inv-loop
     μ-loop
-    largest-frame-requires
+    first-largest-requires
     add-n-end
     loop-holds
     exceeding-requires

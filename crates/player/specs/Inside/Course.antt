@@ -29,7 +29,7 @@ never = record { task = 0; tick = 2 ^ 32 - 1; work = 0; lock = 0 }
 
 -- entry j, or that one where there is none
 unfoldable pub upcoming : List ℕ → Cast → ℕ → Entry
-upcoming s cast j = cond (ltb j (cast .entries)) (entry-at s (cast .count) j) never
+upcoming s cast j = cond (ltb j (cast .entries)) (entry-at (cast .count) s j) never
 
 -- how far a play has come, with the task picked that has the tick
 abbrev pub with-picked : Cast → Progress → Progress
@@ -60,7 +60,7 @@ pub record Stage (s : List ℕ) (cast : Cast) : Type 0 where
   pub ready : Ready (take (cast .count) (cast .order)) tasks sc
   pub count-is : cast .count ≡ length tasks
   pub entries-are : cast .entries ≡ length (sc .entries)
-  pub entry-is : (j : ℕ) → j < length (sc .entries) → entry-at s (cast .count) j ≡ getD (sc .entries) j no-entry
+  pub entry-is : (j : ℕ) → j < length (sc .entries) → entry-at (cast .count) s j ≡ getD (sc .entries) j no-entry
   pub due-in : (i k : ℕ) → i < length tasks → getD (cast .deadlines) i 0 ≡ deadline-of (task-at tasks i) k
 
 module _ (order : List ℕ) (tasks : List Task) (sc : Script) where

@@ -35,7 +35,7 @@ deadlines-in records = map (λ r. deadline-of (task-in r) 0) records
 unfoldable pub cast-for : TaskSet → List ℕ → Cast
 cast-for set bytes =
     let count = length (order-of set) in
-    record { count = count; entries = entry-count bytes count; order = ordered set .numbers; deadlines = deadlines-in (set .tasks) }
+    record { count = count; entries = entry-count count bytes; order = ordered set .numbers; deadlines = deadlines-in (set .tasks) }
 
 -- where nobody plays
 abbrev pub no-cast : Cast

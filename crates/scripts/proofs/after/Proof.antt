@@ -1,12 +1,14 @@
 -- `after` meets its contract.
+use mathlib.Core.Path.{_∙_}
+use Rattle.sheet.proofs.Rounds.{next-is}
 use Rattle.plays.specs.Items.{standing}
 use Rattle.scripts.proofs.Turns.{after-is}
 use borrow.Author.Needs.{needs}
 use Rattle.scripts.proofs.after.Statement.{statement}
 use Rattle.scripts.proofs.after.Tie as tie
 
-next-frame-requires : tie.Need-next-frame-requires
-next-frame-requires c κs = search needs
+frame-after-requires : tie.Need-frame-after-requires
+frame-after-requires c κs = search needs
 
 cast-t5 : tie.Need-cast-t5
 cast-t5 c = search needs
@@ -25,9 +27,9 @@ unfolding standing
 add-t9 c = search needs
 
 returns : tie.Need-returns
-returns c = after-is _ _ _ _ _ (c .before .before .before .next-frame .ensures) (c .standing .ensures)
+returns c = let f = c .before .before .before in after-is _ _ _ _ _ (f .frame-after .ensures ∙ next-is _ _ (f .before .pre)) (c .standing .ensures)
 
 pub after-spec : {M : Type 1} → statement M
 after-spec =
     tie.close
-    (tie.spec next-frame-requires cast-t5 cast-t6 add-t7 standing-requires add-t9 returns)
+    (tie.spec frame-after-requires cast-t5 cast-t6 add-t7 standing-requires add-t9 returns)

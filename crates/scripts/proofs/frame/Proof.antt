@@ -2,7 +2,7 @@
 use mathlib.Core.Path.{_≡_}
 use native.Mathlib.Omega.{arith}
 use lib.ListN.{length}
-use Rattle.scripts.proofs.Turns.{frame-there, frame-is}
+use Rattle.sheet.proofs.Records.{frame-there, frame-is}
 use borrow.Author.Needs.{needs}
 use Rattle.scripts.proofs.frame.Statement.{statement}
 use Rattle.scripts.proofs.frame.Tie as tie

@@ -1,4 +1,4 @@
--- `judge_entries` meets its contract: the entries from j on decide, by the course of those before.
+-- `judge_entries` meets its contract: the entries from j on decide, by the ledger of those before.
 use mathlib.Core.List.{map}
 use mathlib.Core.Path.{_≡_, sym, _∙_}
 use Prim.Native.Nat.{_-_, _^_, _≤_, _<_}

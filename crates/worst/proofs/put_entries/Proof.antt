@@ -7,6 +7,7 @@ use denote.Ref.{now}
 use lib.ListN.{length, getD, length-set}
 use Rattle.sheet.specs.Constants.{most-tasks}
 use Rattle.sheet.specs.declared.Task.{Task}
+use Rattle.sheet.proofs.Rounds.{next-is}
 use Rattle.scripts.specs.Writing.{entries-bits}
 use Rattle.worst.specs.declared.Plan.{Plan}
 use Rattle.worst.specs.Inside.Plans.{plan-turn, SoundPlan, plan-entries}
@@ -75,7 +76,7 @@ module _ (c : tie.In-loop Inv-loop μ-loop) where
   tick-is = c .before .loop .inv .2
 
   so-far : WrittenTo plan (now (start .args .bytes)) (start .args .at) (c .before .loop .bytes) due next (c .before .loop .end) (getD due i 0) i
-  so-far = written-next plan sound _ _ (c .before .loop .inv .0) (c .before .loop .inv .1) (rw tick-is at (c .loop-test .taken))
+  so-far = written-next plan sound _ _ (c .before .loop .inv .0) (c .before .loop .inv .1) (omega (arith, tick-is, c .loop-test .taken))
 
 mul-task : tie.Need-mul-task Inv-loop μ-loop
 mul-task c = record { fits = omega (arith, below c) }
@@ -124,8 +125,8 @@ mul-due-2 c = record { fits = omega (arith, below (c .before .before .before .be
 array-write-due : tie.Need-array-write-due Inv-loop μ-loop
 array-write-due c = below (c .before .before .before .before .before .before)
 
-following-requires : tie.Need-following-requires Inv-loop μ-loop
-following-requires c κs = let l = c .before .before .before .before .before .before in next-in (plan l) (sound l) _ _ (start l .pre .1) (inside l) (so-far l)
+frame-after-requires : tie.Need-frame-after-requires Inv-loop μ-loop
+frame-after-requires c κs = search needs
 
 mul-next : tie.Need-mul-next Inv-loop μ-loop
 mul-next c = record { fits = omega (arith, below (c .before .before .before .before .before .before .before)) }
@@ -155,7 +156,7 @@ loop-again c =
     let l = c .before .before .before .before .before .before .before .before .before in
     let p = c .before .before .before .before .before in (
       written-more (plan l) (sound l) _ _ (start l .pre .1) (inside l) (so-far l) _ (entry-made (plan l) (due l) (next l) (i l) _ _ (tick-is l) (p .before .before .work .ensures)) (p .put-entry .ensures) _ _ (p .put-entry .kept .0)
-          (ap (λ (x : ℕ). x + plan-turn (plan l) (i l) .step) (tick-is l)) (c .before .before .following .ensures),
+          (ap (λ (x : ℕ). x + plan-turn (plan l) (i l) .step) (tick-is l)) (c .before .before .frame-after .ensures ∙ next-is _ _ (next-in (plan l) (sound l) _ _ (start l .pre .1) (inside l) (so-far l))),
       c .soonest2 .ensures,
       refl,
     )
@@ -166,7 +167,7 @@ same-length c = let a = c .before .before .before .before .before .before .befor
 returns : tie.Need-returns Inv-loop μ-loop
 returns c =
     let a = c .before .before .before .before .before .before .before .before .before .before .before in
-    written-all (a .args .plan) (a .pre .0) _ _ (c .before .loop .inv .0) (c .before .loop .inv .1) (rw (c .before .loop .inv .2) at (c .loop-test .left))
+    written-all (a .args .plan) (a .pre .0) _ _ (c .before .loop .inv .0) (c .before .loop .inv .1) (omega (arith, c .before .loop .inv .2, c .loop-test .left))
 
 pub put-entries-spec : {M : Type 1} → statement M
 put-entries-spec =
@@ -193,7 +194,7 @@ put-entries-spec =
     add-due
     mul-due-2
     array-write-due
-    following-requires
+    frame-after-requires
     mul-next
     array-write-next
     soonest-requires-2

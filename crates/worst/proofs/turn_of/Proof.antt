@@ -1,6 +1,4 @@
 -- `turn_of` meets its contract.
-use mathlib.Core.Path.{sym}
-use Rattle.analysis.proofs.Shapes.{largest-is}
 use Rattle.worst.proofs.Roles.{turn-above, turn-own, turn-blocks, turn-absent}
 use borrow.Author.Needs.{needs}
 use Rattle.worst.proofs.turn_of.Statement.{statement}
@@ -16,7 +14,7 @@ returns-2 : tie.Need-returns-2
 returns-2 c = let a = c .before .before .before .before .before in turn-own (a .args .case) (a .args .q) (a .args .task) (c .before .before .if1 .left) (c .if2 .taken)
 
 largest-frame-requires : tie.Need-largest-frame-requires
-largest-frame-requires c κs = let a = c .before .before .before .before .before .before .before in sym (largest-is (a .args .shape) _ (a .pre .1))
+largest-frame-requires c κs = search needs
 
 returns-3 : tie.Need-returns-3
 returns-3 c =

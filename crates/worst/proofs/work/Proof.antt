@@ -2,8 +2,8 @@
 use mathlib.Core.Path.{_≡_, _∙_}
 use native.Mathlib.Omega.{arith}
 use lib.ListN.{length}
-use Rattle.scripts.proofs.Turns.{frame-there, frame-is}
-use Rattle.worst.proofs.Frames.{work-free, work-locked}
+use Rattle.sheet.proofs.Records.{frame-there, frame-is}
+use Rattle.worst.proofs.JobWork.{work-free, work-locked}
 use borrow.Author.Needs.{needs}
 use Rattle.worst.proofs.work.Statement.{statement}
 use Rattle.worst.proofs.work.Tie as tie

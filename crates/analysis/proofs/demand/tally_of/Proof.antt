@@ -7,7 +7,7 @@ use mir.Syntax.{w32}
 use mir.Val.{Fits}
 use borrow.Author.Needs.{needs}
 use Rattle.sheet.specs.Constants.{most-frames}
-use Rattle.analysis.proofs.ByPlace.{frames-counted}
+use Rattle.sheet.proofs.Records.{frames-counted}
 use Rattle.analysis.proofs.Tallies.{FirstSums, first-none, first-more, tally-made}
 use Rattle.analysis.proofs.demand.tally_of.Statement.{statement}
 use Rattle.analysis.proofs.demand.tally_of.Tie as tie

@@ -2,7 +2,7 @@
 use mathlib.Core.Path.{refl}
 use Rattle.sheet.specs.Tasks.{task-in}
 use Rattle.analysis.specs.Inside.Steps.{finding-with}
-use Rattle.analysis.proofs.ByPlace.{frames-counted}
+use Rattle.sheet.proofs.Records.{frames-counted}
 use borrow.Author.Needs.{needs}
 use Rattle.analysis.proofs.findings.finding.Statement.{statement}
 use Rattle.analysis.proofs.findings.finding.Tie as tie

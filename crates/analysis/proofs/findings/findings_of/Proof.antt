@@ -1,26 +1,17 @@
--- `findings_of` meets its contract.
+-- `findings_of` meets its contract: the places before place p are looked at, and their findings stand.
 use mathlib.Core.Path.{_≡_, refl}
-use Prim.Native.Nat.{ℕ, _≤_, _<_, _-_}
+use Prim.Native.Nat.{_-_}
 use native.Mathlib.Omega.{arith}
-use lib.ListN.{length, getD}
+use lib.ListN.{length}
 use Rattle.sheet.specs.Constants.{most-tasks}
-use Rattle.sheet.specs.Tasks.{no-record}
-use Rattle.sheet.specs.declared.Task.{Task}
 use Rattle.sheet.proofs.Records.{mapped-length}
-use Rattle.order.specs.Ordered.{tasks-in-order}
-use Rattle.order.specs.declared.Ordered.{Ordered}
-use Rattle.analysis.specs.Inside.Demand.{Tallies}
-use Rattle.analysis.proofs.Growing.{Grown, none-grown, tallies-above, grown-more, all-grown}
-use Rattle.analysis.proofs.InUse.{tasks-count}
-use Rattle.analysis.proofs.Placed.{task-there, shape-there, well-formed, start-in}
-use Rattle.analysis.proofs.Shapes.{shape-start}
+use Rattle.analysis.proofs.Growing.{Walk, walk-starts, Here, here, walk-on, Found, none-found, found-more, all-found}
 use borrow.Author.Needs.{needs}
 use Rattle.analysis.proofs.findings.findings_of.Statement.{statement}
 use Rattle.analysis.proofs.findings.findings_of.Tie as tie
 
 abbrev Inv-loop : tie.InvT-loop
-Inv-loop o shapes tasks numbers count findings₀ above₀ p₀ findings above p =
-    (p ≤ count) × (length (tasks-in-order o) ≡ count) × (count ≤ most-tasks) × (length tasks ≡ most-tasks) × Grown o findings above p
+Inv-loop o shapes tasks numbers count findings₀ above₀ p₀ findings above p = Walk o count above p × Found o findings p
 
 abbrev μ-loop : tie.MeasureT-loop
 μ-loop o shapes tasks numbers count findings₀ above₀ p₀ findings above p = count - p
@@ -38,7 +29,7 @@ loop-holds : tie.Need-loop-holds Inv-loop μ-loop
 loop-holds c =
     let o = c .before .before .before .before .before .args .o in
     let room : length (o .tasks) ≡ most-tasks = search (needs, mapped-length) in
-    (search needs, tasks-count o _ (c .before .in-use .ensures, room), omega arith, room, none-grown o _ _ (c .blank .ensures))
+    (walk-starts o _ _ (c .before .in-use .ensures, room), none-found o _ (c .blank .ensures))
 
 mul-task : tie.Need-mul-task Inv-loop μ-loop
 mul-task c = search needs
@@ -52,44 +43,22 @@ mul-number c = search needs
 array-read-number : tie.Need-array-read-number Inv-loop μ-loop
 array-read-number c = search needs
 
--- the task of the place, its start frame and its shape
+-- the turn of a place
 module _ (c : tie.In-loop Inv-loop μ-loop) where
   abbrev start : tie.Start Inv-loop μ-loop
   start = c .before .before .before .before .before .before .before
 
-  abbrev o : Ordered
-  o = start .args .o
-
-  abbrev p : ℕ
-  p = c .before .loop .p
-
-  abbrev task : Task
-  task = getD (o .tasks) p no-record
-
-  inside : p < length (tasks-in-order o)
-  inside = omega (arith, c .before .loop .inv .1)
-
-  -- there is a shape at the number of a task
-  below : getD (o .numbers) p 0 < most-tasks
-  below = start .pre .numbered p inside
-
-  few : length (tasks-in-order o) ≤ most-tasks
-  few = omega (arith, c .before .loop .inv .1)
-
-  room : length (o .tasks) ≡ most-tasks
-  room = c .before .loop .inv .3
-
-  abbrev tallies : Tallies p (c .before .loop .above)
-  tallies = tallies-above o (start .args .t2) (start .pre) few _ p inside (c .before .loop .inv .4 .tasks-above)
+  at-place : Here (start .args .o) (start .args .t2) (c .before .loop .above) (c .before .loop .p)
+  at-place = here _ _ (start .pre) _ _ _ (c .before .loop .inv .0) (c .loop-test .taken)
 
 cast-shape : tie.Need-cast-shape Inv-loop μ-loop
-cast-shape c = record { fits = omega (arith, below (c .before)) }
+cast-shape c = record { fits = omega (arith, at-place (c .before) .number-in) }
 
 mul-shape : tie.Need-mul-shape Inv-loop μ-loop
-mul-shape c = record { fits = omega (arith, below (c .before)) }
+mul-shape c = record { fits = omega (arith, at-place (c .before) .number-in) }
 
 array-copy-out-shape : tie.Need-array-copy-out-shape Inv-loop μ-loop
-array-copy-out-shape c = below (c .before)
+array-copy-out-shape c = at-place (c .before) .number-in
 
 cast-blocking : tie.Need-cast-blocking Inv-loop μ-loop
 cast-blocking c = search needs
@@ -98,7 +67,7 @@ blocking-requires : tie.Need-blocking-requires Inv-loop μ-loop
 blocking-requires c κs = search needs
 
 finding-of-requires : tie.Need-finding-of-requires Inv-loop μ-loop
-finding-of-requires c κs = let at = c .before .before .before .before in (omega arith, tallies at, well-formed (o at) _ (start at .pre) (room at) (p at) (inside at), shape-there (o at) _ (start at .pre) (room at) (p at) (inside at))
+finding-of-requires c κs = let h = at-place (c .before .before .before .before) in (omega (arith, h .in-room), h .tallies, h .formed, h .shape-is)
 
 mul-findings : tie.Need-mul-findings Inv-loop μ-loop
 mul-findings c = search needs
@@ -107,7 +76,7 @@ array-set-from-findings : tie.Need-array-set-from-findings Inv-loop μ-loop
 array-set-from-findings c = search needs
 
 tally-of-requires : tie.Need-tally-of-requires Inv-loop μ-loop
-tally-of-requires c κs = let at = c .before .before .before .before .before in start-in (o at) _ (start at .pre) (room at) (p at) (inside at)
+tally-of-requires c κs = at-place (c .before .before .before .before .before) .start-in
 
 mul-above : tie.Need-mul-above Inv-loop μ-loop
 mul-above c = search needs
@@ -123,19 +92,15 @@ loop-less c = search needs
 
 loop-again : tie.Need-loop-again Inv-loop μ-loop
 loop-again c =
-    let at = c .before .before .before .before .before .before in (
-      search needs,
-      at .before .loop .inv .1,
-      at .before .loop .inv .2,
-      at .before .loop .inv .3,
-      grown-more (o at) (start at .args .t2) (start at .pre) (few at) _ _ (p at) (inside at) (at .before .loop .inv .4) _ _ _ (task at) _ _ (task-there (o at) _ (start at .pre) (room at) (p at) (inside at)) refl
-          (c .before .before .before .blocking .ensures) (c .before .finding-of .ensures (tallies at)) (shape-start _ _ (shape-there (o at) _ (start at .pre) (room at) (p at) (inside at))) (c .tally-of .ensures),
+    let l = c .before .before .before .before .before .before in (
+      walk-on _ _ (start l .pre) _ _ _ (l .before .loop .inv .0) (l .loop-test .taken) _ (c .tally-of .ensures),
+      found-more _ _ _ _ (at-place l) _ _ _ _ (l .before .loop .inv .1) refl (c .before .before .before .blocking .ensures) (c .before .finding-of .ensures (at-place l .tallies)),
     )
 
 returns : tie.Need-returns Inv-loop μ-loop
 returns c =
-    let start = c .before .before .before .before .before .before .before in
-    all-grown (start .args .o) (start .args .t2) (start .pre) (omega (arith, c .before .loop .inv .1)) _ _ _ (omega (arith, c .before .loop .inv .1)) (c .before .loop .inv .4)
+    let w = c .before .loop .inv .0 in
+    all-found _ _ _ (omega (arith, w .counted, w .within, c .loop-test .left)) (c .before .loop .inv .1)
 
 pub findings-of-spec : {M : Type 1} → statement M
 findings-of-spec =

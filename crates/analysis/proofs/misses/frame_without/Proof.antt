@@ -11,8 +11,9 @@ use Rattle.sheet.specs.Tasks.{task-in}
 use Rattle.analysis.specs.Inside.Demand.{Tallies}
 use Rattle.analysis.specs.Inside.Response.{response-to}
 use Rattle.analysis.specs.Inside.Steps.{is-there}
-use Rattle.analysis.proofs.ByPlace.{frames-counted, frame-counts}
-use Rattle.analysis.proofs.FirstMiss.{AllHave, none-looked, one-has, found-without, all-have, frame-there}
+use Rattle.sheet.proofs.Records.{frames-counted, frame-is}
+use Rattle.analysis.proofs.ByPlace.{frame-counts}
+use Rattle.analysis.proofs.FirstMiss.{AllHave, none-looked, one-has, found-without, all-have}
 use borrow.Author.Needs.{needs}
 use Rattle.analysis.proofs.misses.frame_without.Statement.{statement}
 use Rattle.analysis.proofs.misses.frame_without.Tie as tie
@@ -69,7 +70,7 @@ seen c tallies =
     let at = r .before .before .before in
     let a = at .before .before .before .before .args in
     c .is-there .ensures
-    ∙ ap is-there (r .respond .ensures tallies ∙ ap₂ (λ (own d : ℕ). response-to (tallies .tasks) (a .blocked) own d) (frame-there _ _ _ (at .before .in-use .ensures, at .loop .inv .2) (omega arith)) (r .before .deadline-of .ensures))
+    ∙ ap is-there (r .respond .ensures tallies ∙ ap₂ (λ (own d : ℕ). response-to (tallies .tasks) (a .blocked) own d) (frame-is _ _ (omega (arith, used (at .before)))) (r .before .deadline-of .ensures))
 
 returns : tie.Need-returns Inv-loop μ-loop
 returns c tallies =

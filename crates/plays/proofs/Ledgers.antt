@@ -1,4 +1,4 @@
--- Entries in order: each stands once, and the course of the releases before an entry is the lane of its task in the script's run.
+-- Entries in order: each stands once, and the ledger of the releases before an entry is the lane of its task in the script's run.
 use mathlib.Core.Bool.{Bool, true, false, cond, _&&_}
 use mathlib.Core.List.{List, [], _∷_, _++_, List·Memᴰ, List·Memᴰ·head, List·Memᴰ·tail, List·Memᴰ·cases-cons, List·Memᴰ·not-nil, Memᴰ·append-right}
 use mathlib.Core.Logic.{_⊎_, inl, inr, _↔_, Iff·trans}
@@ -23,22 +23,22 @@ use Rattle.analysis.specs.Times.{number-at, place-of}
 use Rattle.analysis.proofs.Numbering.{number-back}
 use Rattle.plays.specs.Script.{Script, entry-of}
 use Rattle.plays.specs.declared.Entry.{Entry}
-use Rattle.plays.specs.Items.{Course, standing, first-course, after-entry, in-range, in-order, by-rules, sound, entry-checks}
+use Rattle.plays.specs.Items.{Ledger, standing, first-ledger, after-entry, in-range, in-order, by-rules, sound, entry-checks}
 use Rattle.plays.specs.ScriptRun.{by-place, work-of, released-at, choice, script-state, script-run}
 use Rattle.plays.proofs.States.{run-state}
 use Rattle.plays.proofs.ScriptLanes.{by-place-at, place-found}
 
--- the course after a row of entries
-unfoldable pub after-entries : List Task → Course → List Entry → Course
+-- the ledger after a row of entries
+unfoldable pub after-entries : List Task → Ledger → List Entry → Ledger
 after-entries tasks c [] = c
 after-entries tasks c (e ∷ es) = after-entries tasks (after-entry tasks c e) es
 
 module _ (tasks : List Task) where
-  after-none : (c : Course) → after-entries tasks c [] ≡ c
+  after-none : (c : Ledger) → after-entries tasks c [] ≡ c
   unfolding after-entries
   after-none c = refl
 
-  after-more : (c : Course) (e : Entry) (es : List Entry) → after-entries tasks c (e ∷ es) ≡ after-entries tasks (after-entry tasks c e) es
+  after-more : (c : Ledger) (e : Entry) (es : List Entry) → after-entries tasks c (e ∷ es) ≡ after-entries tasks (after-entry tasks c e) es
   unfolding after-entries
   after-more c e es = refl
 
@@ -276,25 +276,25 @@ module _ (tasks : List Task) (i : ℕ) where
       go (no ne) later = both u (turns-other (suc t) e es u (λ p. absurd (ne p))) (turns-other t e es u (λ p. absurd (ne p))) (λ p _. ne p) later
       go (yes p) later = own p (decLt (e .tick) t) (ℕ-discrete (e .tick) t) later
 
-  -- the turn in a course
-  abbrev course-turn : Course → ℕ × ℕ
-  course-turn c = (c .next i, c .free-from i)
+  -- the turn in a ledger
+  abbrev ledger-turn : Ledger → ℕ × ℕ
+  ledger-turn c = (c .next i, c .free-from i)
 
-  own-entry : (c : Course) (e : Entry) → e .task ≡ i → course-turn (after-entry tasks c e) ≡ turn-after (e .tick) (course-turn c)
+  own-entry : (c : Ledger) (e : Entry) → e .task ≡ i → ledger-turn (after-entry tasks c e) ≡ turn-after (e .tick) (ledger-turn c)
   unfolding after-entry turn-after
   own-entry c e p = rw (eq-eqb i (e .task) (sym p), p) refl
 
-  other-entry : (c : Course) (e : Entry) → (e .task ≡ i → ⊥) → course-turn (after-entry tasks c e) ≡ course-turn c
+  other-entry : (c : Ledger) (e : Entry) → (e .task ≡ i → ⊥) → ledger-turn (after-entry tasks c e) ≡ ledger-turn c
   unfolding after-entry
   other-entry c e ne = rw (ne-eqb i (e .task) (λ q. ne (sym q))) refl
 
   -- after entries of which the task's are before tick t
-  course-turns : (t : ℕ) (c : Course) (es : List Entry) → AllBefore i t es → course-turn (after-entries tasks c es) ≡ turns t es (course-turn c)
-  course-turns t c [] h = ap course-turn (after-none tasks c) ∙ sym (turns-nil t _)
-  course-turns t c (e ∷ es) h =
-      ap course-turn (after-more tasks c e es) ∙ course-turns t (after-entry tasks c e) es (λ d m. h d (List·Memᴰ·tail m)) ∙ go (ℕ-discrete (e .task) i)
+  ledger-turns : (t : ℕ) (c : Ledger) (es : List Entry) → AllBefore i t es → ledger-turn (after-entries tasks c es) ≡ turns t es (ledger-turn c)
+  ledger-turns t c [] h = ap ledger-turn (after-none tasks c) ∙ sym (turns-nil t _)
+  ledger-turns t c (e ∷ es) h =
+      ap ledger-turn (after-more tasks c e es) ∙ ledger-turns t (after-entry tasks c e) es (λ d m. h d (List·Memᴰ·tail m)) ∙ go (ℕ-discrete (e .task) i)
     where
-      go : Dec (e .task ≡ i) → turns t es (course-turn (after-entry tasks c e)) ≡ turns t (e ∷ es) (course-turn c)
+      go : Dec (e .task ≡ i) → turns t es (ledger-turn (after-entry tasks c e)) ≡ turns t (e ∷ es) (ledger-turn c)
       go (yes p) = ap (turns t es) (own-entry c e p) ∙ sym (turns-own t e es _ p (h e (List·Memᴰ·head refl) p))
       go (no ne) = ap (turns t es) (other-entry c e ne) ∙ sym (turns-other t e es _ (λ p. absurd (ne p)))
 
@@ -338,43 +338,43 @@ module _ (order : List ℕ) (tasks : List Task) (sc : Script) (p : ℕ) (in-set 
   lane-turns b o (suc t) =
       turn-step t ∙ ap (turn-by tasks i (entry-of (sc .entries) i t) t) (lane-turns b o t) ∙ sym (turns-suc tasks i t b (sc .entries) _ o)
 
-  course-first : course-turn tasks (number-at order p) (first-course (sc .firsts)) ≡ (getD (sc .firsts) (number-at order p) 0, 0)
-  unfolding first-course
-  course-first = refl
+  ledger-first : ledger-turn tasks (number-at order p) (first-ledger (sc .firsts)) ≡ (getD (sc .firsts) (number-at order p) 0, 0)
+  unfolding first-ledger
+  ledger-first = refl
 
-  -- where a script's entries are in order, the course after those of a task before tick t is the task's lane at time t
-  pub course-at : (b : ℕ) → InOrder b (sc .entries) → (t : ℕ) (xs ys : List Entry) → sc .entries ≡ xs ++ ys
+  -- where a script's entries are in order, the ledger after those of a task before tick t is the task's lane at time t
+  pub ledger-at : (b : ℕ) → InOrder b (sc .entries) → (t : ℕ) (xs ys : List Entry) → sc .entries ≡ xs ++ ys
       → AllBefore (number-at order p) t xs → NoneBefore (number-at order p) t ys
-      → (after-entries tasks (first-course (sc .firsts)) xs .next (number-at order p) ≡ script-state order tasks sc t .lanes p .next)
-      × (after-entries tasks (first-course (sc .firsts)) xs .free-from (number-at order p) ≡ script-state order tasks sc t .lanes p .free-from)
-  course-at b o t xs ys split before after = (ap (λ (u : ℕ × ℕ). u .0) same, ap (λ (u : ℕ × ℕ). u .1) same)
+      → (after-entries tasks (first-ledger (sc .firsts)) xs .next (number-at order p) ≡ script-state order tasks sc t .lanes p .next)
+      × (after-entries tasks (first-ledger (sc .firsts)) xs .free-from (number-at order p) ≡ script-state order tasks sc t .lanes p .free-from)
+  ledger-at b o t xs ys split before after = (ap (λ (u : ℕ × ℕ). u .0) same, ap (λ (u : ℕ × ℕ). u .1) same)
     where
       first : ℕ × ℕ
       first = (getD (sc .firsts) i 0, 0)
 
-      same : course-turn tasks i (after-entries tasks (first-course (sc .firsts)) xs) ≡ lane-turn (script-state order tasks sc t .lanes p)
+      same : ledger-turn tasks i (after-entries tasks (first-ledger (sc .firsts)) xs) ≡ lane-turn (script-state order tasks sc t .lanes p)
       same =
-          course-turns tasks i t _ xs before
-          ∙ ap (turns tasks i t xs) course-first
+          ledger-turns tasks i t _ xs before
+          ∙ ap (turns tasks i t xs) ledger-first
           ∙ sym (lane-turns b o t ∙ ap (λ l. turns tasks i t l first) split ∙ turns-append tasks i t xs ys first ∙ turns-later tasks i t ys _ after)
 
 module _ (order : List ℕ) (tasks : List Task) (sc : Script) (permutes : Permutes (length tasks) order) where
-  -- where a script's entries are in order, the course before an entry is the lane of its task at its tick
-  pub course-is-lane : (b : ℕ) → InOrder b (sc .entries) → (xs : List Entry) (e : Entry) (ys : List Entry) → sc .entries ≡ xs ++ (e ∷ ys) → e .task < length tasks
-      → (after-entries tasks (first-course (sc .firsts)) xs .next (e .task) ≡ script-state order tasks sc (e .tick) .lanes (place-of order (e .task)) .next)
-      × (after-entries tasks (first-course (sc .firsts)) xs .free-from (e .task) ≡ script-state order tasks sc (e .tick) .lanes (place-of order (e .task)) .free-from)
-  course-is-lane b o xs e ys split in-set =
+  -- where a script's entries are in order, the ledger before an entry is the lane of its task at its tick
+  pub ledger-is-lane : (b : ℕ) → InOrder b (sc .entries) → (xs : List Entry) (e : Entry) (ys : List Entry) → sc .entries ≡ xs ++ (e ∷ ys) → e .task < length tasks
+      → (after-entries tasks (first-ledger (sc .firsts)) xs .next (e .task) ≡ script-state order tasks sc (e .tick) .lanes (place-of order (e .task)) .next)
+      × (after-entries tasks (first-ledger (sc .firsts)) xs .free-from (e .task) ≡ script-state order tasks sc (e .tick) .lanes (place-of order (e .task)) .free-from)
+  ledger-is-lane b o xs e ys split in-set =
       let same : number-at order (place-of order (e .task)) ≡ e .task = number-back (length tasks) order permutes (e .task) in-set in
       let o′ : InOrder b (xs ++ (e ∷ ys)) = rw (← split) o in
       let lane =
-      course-at order tasks sc (place-of order (e .task)) (place-found order tasks permutes (e .task) in-set) b o (e .tick) xs (e ∷ ys) split
+      ledger-at order tasks sc (place-of order (e .task)) (place-found order tasks permutes (e .task) in-set) b o (e .tick) xs (e ∷ ys) split
       (rw same (own-before b xs e ys o′)) (rw same (own-after b xs e ys o′)) in
       rw same at lane
 
 -- ---- entries of which none is turned away
 
--- what an entry has to keep after a course
-pub record Sound (tasks : List Task) (c : Course) (e : Entry) : Type 0 where
+-- what an entry has to keep after a ledger
+pub record Sound (tasks : List Task) (c : Ledger) (e : Entry) : Type 0 where
   pub in-set : e .task < length tasks
   pub lock-fits : e .lock ≤ task-at tasks (e .task) .lock
   pub in-turn : c .behind ≤ standing e
@@ -382,7 +382,7 @@ pub record Sound (tasks : List Task) (c : Course) (e : Entry) : Type 0 where
   pub work-fits : e .work ≤ frame (task-at tasks (e .task)) (c .next (e .task))
 
 -- the test says just that
-pub sound-is : (tasks : List Task) (c : Course) (e : Entry) → (sound tasks c e ≡ true) ↔ Sound tasks c e
+pub sound-is : (tasks : List Task) (c : Ledger) (e : Entry) → (sound tasks c e ≡ true) ↔ Sound tasks c e
 unfolding sound in-range in-order by-rules
 sound-is tasks c e =
     Iff·trans (is-and (is-and (is-and (ltb-true _ _, lt-ltb _ _) (is-leb _ _)) (is-leb _ _)) (is-and (is-leb _ _) (is-leb _ _))) (
@@ -390,13 +390,13 @@ sound-is tasks c e =
       λ s. (((s .in-set, s .lock-fits), s .in-turn), (s .apart, s .work-fits)),
     )
 
-after-behind : (tasks : List Task) (c : Course) (e : Entry) → after-entry tasks c e .behind ≡ suc (standing e)
+after-behind : (tasks : List Task) (c : Ledger) (e : Entry) → after-entry tasks c e .behind ≡ suc (standing e)
 unfolding after-entry
 after-behind tasks c e = refl
 
 module _ (tasks : List Task) where
   -- of a row that is not turned away the first entry is sound, and the others are not turned away after it
-  checks-passed : (j : ℕ) (c : Course) (e : Entry) (es : List Entry) → first-refusal (entry-checks tasks j c (e ∷ es)) ≡ none
+  checks-passed : (j : ℕ) (c : Ledger) (e : Entry) (es : List Entry) → first-refusal (entry-checks tasks j c (e ∷ es)) ≡ none
       → Sound tasks c e × (first-refusal (entry-checks tasks (suc j) (after-entry tasks c e) es) ≡ none)
   unfolding entry-checks
   checks-passed j c e es h =
@@ -404,14 +404,14 @@ module _ (tasks : List Task) where
       (sound-is tasks c e .0 (not-false _ first), rest)
 
   -- where no entry is turned away, each is sound after those before it
-  pub each-sound : (j : ℕ) (c : Course) (xs : List Entry) (e : Entry) (ys : List Entry) → first-refusal (entry-checks tasks j c (xs ++ (e ∷ ys))) ≡ none
+  pub each-sound : (j : ℕ) (c : Ledger) (xs : List Entry) (e : Entry) (ys : List Entry) → first-refusal (entry-checks tasks j c (xs ++ (e ∷ ys))) ≡ none
       → Sound tasks (after-entries tasks c xs) e
   unfolding after-entries
   each-sound j c [] e ys h = checks-passed j c e ys h .0
   each-sound j c (x ∷ xs) e ys h = each-sound (suc j) (after-entry tasks c x) xs e ys (checks-passed j c x (xs ++ (e ∷ ys)) h .1)
 
   -- and they are in order
-  pub checked-in-order : (j : ℕ) (c : Course) (es : List Entry) → first-refusal (entry-checks tasks j c es) ≡ none → InOrder (c .behind) es
+  pub checked-in-order : (j : ℕ) (c : Ledger) (es : List Entry) → first-refusal (entry-checks tasks j c es) ≡ none → InOrder (c .behind) es
   checked-in-order j c [] h = tt
   checked-in-order j c (e ∷ es) h =
       let (first, rest) = checks-passed j c e es h in
