@@ -1,16 +1,16 @@
 -- What a byte of a trace says, in the words of the theory: the task that the run gives the tick to, and whether in a locked stretch.
 use mathlib.Core.List.{List}
 use mathlib.Core.Option.{Option, none, some}
-use mathlib.Core.Path.{_≡_, refl, sym, ap, _∙_}
+use mathlib.Core.Path.{_≡_, refl, ap, _∙_}
 use Prim.Native.Nat.{ℕ, zero, suc, _+_}
 use native.Mathlib.Nat.{add-zero}
 use native.Mathlib.Omega.{arith}
 use Rattle.theory.specs.Tasks.{Task}
-use Rattle.theory.specs.Runs.{State, release, pick, stretch-now, seen-at}
+use Rattle.theory.specs.Runs.{State, release, pick, stretch-now}
 use Rattle.theory.proofs.Steps.{Picked, in-stretch, highest, idle, picked}
 use Rattle.analysis.specs.Times.{number-at}
 use Rattle.plays.specs.Script.{Script}
-use Rattle.plays.specs.ScriptRun.{by-place, stretch-at, new-stretch, choice, script-state, script-run}
+use Rattle.plays.specs.ScriptRun.{by-place, stretch-at, new-stretch, choice, script-run}
 use Rattle.plays.specs.Play.{script-seen, shown-stretch, shown-task, shown}
 use Rattle.plays.specs.Says.{stretch-length, TickSays, idle as is-idle, unlocked, locked}
 use Rattle.plays.proofs.States.{run-seen}

@@ -1,18 +1,18 @@
 -- The worst script of a missed set has few entries: as many as there are ticks up to the deadline, and one more for each task, at the most.
 use mathlib.Core.Bool.{cond, true}
-use mathlib.Core.List.{List, []}
+use mathlib.Core.List.{List}
 use mathlib.Core.Option.{Option, none, some}
 use mathlib.Core.Path.{_≡_, refl, sym, ap, _∙_}
 use Prim.Native.Nat.{ℕ, zero, suc, _+_, _-_, _≤_, _<_, zero-le}
 use native.Mathlib.Decide.{ℕ-discrete}
-use native.Mathlib.Nat.{le-refl, le-trans, le-of-eq, add-zero, add-suc}
+use native.Mathlib.Nat.{le-trans, le-of-eq, add-zero, add-suc}
 use native.Mathlib.Omega.{arith}
 use borrow.Author.Tests.{lt-ltb, le-ltb, eq-eqb, ne-eqb}
 use lib.Dec.{ltb, eqb}
 use lib.ListN.{length, length-append}
 use Rattle.theory.specs.Tasks.{Task, task-at, deadline-of, Admitted}
 use Rattle.theory.specs.Analysis.{releases, passes}
-use Rattle.theory.specs.WorstRun.{Role, above, own, blocks, absent, role, once, worst-release}
+use Rattle.theory.specs.WorstRun.{Role, above, own, blocks, absent, once, worst-release}
 use Rattle.theory.proofs.Laws.{releases-zero, releases-few, period-positive}
 use Rattle.theory.proofs.Places.{sum-below, sum-le, sum-eq}
 use Rattle.theory.proofs.WorstReleases.{once-else, period-zero, Periodic, releases-now, releases-none, periodic, RoleOf, is-above, is-own, is-blocker, is-absent, role-of}
@@ -22,7 +22,7 @@ use Rattle.analysis.specs.Findings.{in-turn}
 use Rattle.analysis.proofs.Numbering.{place-in, number-back}
 use Rattle.plays.specs.declared.Entry.{Entry}
 use Rattle.plays.specs.ScriptRun.{by-place}
-use Rattle.plays.specs.WorstScript.{entry-row, role-of-task, worst-lock, worst-row, worst-script}
+use Rattle.plays.specs.WorstScript.{entry-row, role-of-task, worst-row, worst-script}
 use Rattle.plays.proofs.InTurn.{turn-zero, turn-more, turn-sum, turn-one}
 use Rattle.plays.proofs.ScriptLanes.{by-place-length, task-of-number}
 

@@ -1,7 +1,6 @@
 -- What we sign for the worst run written, at the entries: every theorem is about any call that keeps its contract (specs/Calls.antt).
 -- What is claimed stands in specs/WorstRuns.antt and specs/Numbers.antt.
 use mathlib.Core.List.{List, []}
-use mathlib.Core.Logic.{_↔_}
 use mathlib.Core.Option.{Option, none, some}
 use mathlib.Core.Path.{_≡_, refl, sym, ap, _∙_}
 use Prim.Native.Nat.{ℕ, suc, _≤_, _<_, zero-le}

@@ -1,16 +1,16 @@
 -- Tasks that pass have few releases: in t ticks at most t, and one more each.
 use mathlib.Core.List.{List}
 use mathlib.Core.Bool.{true}
-use mathlib.Core.Path.{_≡_, refl, sym, ap, ap₂, _∙_}
+use mathlib.Core.Path.{_≡_, refl, sym, ap, _∙_}
 use Prim.Native.Nat.{ℕ, zero, suc, pred, _+_, _*_, _%_, _≤_, _<_, zero-le}
 use native.Mathlib.Nat.{le-refl, le-trans, le-of-eq, add-mul, mul-add, mul-assoc, mul-right-comm, zero-mul, mul-zero, mul-le-mul-left, mul-le-mul-right, le-of-mul-le-mul-right, mod-lt}
 use native.Mathlib.Omega.{arith}
 use lib.ListN.{length}
-use Rattle.theory.specs.Tasks.{Task, task-at, frame-count, frame, work, start-frame, deadline-of, WellFormed, Admitted}
-use Rattle.theory.specs.Analysis.{blocking, lower, higher, releases, higher-work, demand, demand-of, passes}
-use Rattle.theory.proofs.Work.{frame-mod, work-zero, work-suc, period-positive}
-use Rattle.theory.proofs.Demand.{releases-more, releases-mono}
-use Rattle.theory.proofs.Places.{sum-below, sum-le, sum-eq, sum-add, work-in, higher-work-sum}
+use Rattle.theory.specs.Tasks.{Task, task-at, frame-count, frame, work, start-frame, WellFormed, Admitted}
+use Rattle.theory.specs.Analysis.{higher, releases, higher-work, demand, demand-of, passes}
+use Rattle.theory.proofs.Work.{frame-mod, work-suc, period-positive}
+use Rattle.theory.proofs.Demand.{releases-more}
+use Rattle.theory.proofs.Places.{sum-below, sum-le, sum-add, work-in, higher-work-sum}
 use Rattle.theory.proofs.Verdict.{passes-frames, response-of-is}
 
 -- ---- sums
