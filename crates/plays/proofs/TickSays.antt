@@ -12,7 +12,7 @@ use Rattle.analysis.specs.Times.{number-at}
 use Rattle.plays.specs.Script.{Script}
 use Rattle.plays.specs.ScriptRun.{by-place, stretch-at, new-stretch, choice, script-run}
 use Rattle.plays.specs.Play.{script-seen, shown-stretch, shown-task, shown}
-use Rattle.plays.specs.Says.{stretch-length, TickSays, idle as is-idle, unlocked, locked}
+use Rattle.plays.specs.Says.{has-tick, stretch-length, TickSays, idle as is-idle, unlocked, locked}
 use Rattle.plays.proofs.States.{run-seen}
 
 module _ (order : List ℕ) (tasks : List Task) (sc : Script) (n u : ℕ) where
@@ -24,6 +24,9 @@ module _ (order : List ℕ) (tasks : List Task) (sc : Script) (n u : ℕ) where
 
   abbrev length-now : ℕ
   length-now = stretch-now (seen .to-come) (new-stretch order sc seen at)
+
+  same-place : has-tick order tasks sc n u ≡ at
+  same-place = ap (pick (by-place order tasks)) (run-seen order tasks sc n u)
 
   same-stretch : stretch-length order tasks sc n u ≡ length-now
   unfolding script-run choice script-seen release
@@ -44,7 +47,7 @@ module _ (order : List ℕ) (tasks : List Task) (sc : Script) (n u : ℕ) where
   shown-says = go at length-now refl refl
     where
       go : (o : Option ℕ) (m : ℕ) → at ≡ o → length-now ≡ m → TickSays order tasks sc n u (shown-task order tasks sc o + shown-stretch m)
-      go none zero a l = is-idle (ap (pick (by-place order tasks)) (run-seen order tasks sc n u) ∙ a)
+      go none zero a l = is-idle (same-place ∙ a)
       go none (suc m) a l = let z : ⊥ = omega (arith, none-idle a) in absurd z
-      go (some p) zero a l = rw (add-zero (number-at order p)) (unlocked p (ap (pick (by-place order tasks)) (run-seen order tasks sc n u) ∙ a) (same-stretch ∙ l))
-      go (some p) (suc m) a l = locked p m (ap (pick (by-place order tasks)) (run-seen order tasks sc n u) ∙ a) (same-stretch ∙ l)
+      go (some p) zero a l = rw (add-zero (number-at order p)) (unlocked p (same-place ∙ a) (same-stretch ∙ l))
+      go (some p) (suc m) a l = locked p m (same-place ∙ a) (same-stretch ∙ l)
