@@ -373,7 +373,7 @@ module _ (order : List ℕ) (tasks : List Task) (sc : Script) (permutes : Permut
 
 -- ---- entries of which none is turned away
 
--- what an entry has to keep after a ledger
+-- what an entry has to keep, by the ledger of those before it
 pub record Sound (tasks : List Task) (c : Ledger) (e : Entry) : Type 0 where
   pub in-set : e .task < length tasks
   pub lock-fits : e .lock ≤ task-at tasks (e .task) .lock

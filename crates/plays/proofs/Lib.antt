@@ -1,5 +1,4 @@
 -- The theorems on scripts and plays are in ScriptLegal, Refused, OnePending, PlayEnds, PlaySays, TickSays, WorstPlayed, WorstSound and WorstMiss; the rest stands below these.
-pub mod Examples
 pub mod ScriptLegal
 pub mod Refused
 pub mod OnePending
@@ -20,3 +19,4 @@ pub mod SameStates
 pub mod WorstEntries
 pub mod WorstLanes
 pub mod WorstCount
+pub mod Examples

@@ -50,21 +50,23 @@ module _ (order : List ℕ) (tasks : List Task) (sc : Script) where
 
       -- ---- a miss
 
-      misses-shows : (n t i : ℕ) → i < length tasks → t ≤ n → task-misses order tasks sc t i ≡ true → MissIn order tasks sc n t i
-      unfolding Misses TakesLonger
-      misses-shows n t i h l e =
+      -- a task that misses has a job with work left when it is due
+      late-job : (n t i : ℕ) → i < length tasks → t ≤ n → task-misses order tasks sc t i ≡ true
+          → (r k w : ℕ) × (r + deadline-of (task-at (by-place order tasks) (place-of order i)) k ≡ t)
+          × Left (by-place order tasks) (script-run order tasks sc n) (place-of order i) r k t (suc w)
+      late-job n t i h l e =
           let p = place-of order i in
           let (r, k, w, m, due) = misses-job (task-at (by-place order tasks) p) t (script-state order tasks sc t .lanes p .jobs)
           (sym (misses-in-lane order tasks sc permutes t i h) ∙ e) in
           let it = known order tasks sc by-set legal p (place-found order tasks permutes i h) t r k w m in
-          (r, k, due, (suc w, omega arith, rw due (stands-left n t p (omega (arith, it .earlier)) l (job-stays order tasks sc t p m))))
+          (r, k, w, due, stands-left n t p (omega (arith, it .earlier)) l (job-stays order tasks sc t p m))
 
-      shows-misses : (n t i : ℕ) → i < length tasks → MissIn order tasks sc n t i → task-misses order tasks sc t i ≡ true
-      unfolding Misses TakesLonger
-      shows-misses n t i h (r, k, due, (zero, some-work, l)) = let z : ⊥ = omega arith in absurd z
-      shows-misses n t i h (r, k, due, (suc w, some-work, l)) =
-          misses-in-lane order tasks sc permutes t i h
-          ∙ go (seen-job order tasks sc t (place-of order i) (left-stands n t (place-of order i) (rw due at l)))
+      -- and one that has such a job misses
+      job-late : (n t i r k w : ℕ) → i < length tasks → r + deadline-of (task-at (by-place order tasks) (place-of order i)) k ≡ t → 1 ≤ w
+          → Left (by-place order tasks) (script-run order tasks sc n) (place-of order i) r k t w → task-misses order tasks sc t i ≡ true
+      job-late n t i r k zero h due some-work l = let z : ⊥ = omega arith in absurd z
+      job-late n t i r k (suc w) h due some-work l =
+          misses-in-lane order tasks sc permutes t i h ∙ go (seen-job order tasks sc t (place-of order i) (left-stands n t (place-of order i) l))
         where
           go : List·Memᴰ (job r k (suc w)) (script-state order tasks sc t .lanes (place-of order i) .jobs)
               ⊎ ((r ≡ t) × (k ≡ script-state order tasks sc t .lanes (place-of order i) .next) × (released-at order sc t (place-of order i) ≡ some (suc w)))
@@ -81,13 +83,25 @@ module _ (order : List ℕ) (tasks : List Task) (sc : Script) where
 
       -- task i misses at moment t where a job of it has work left at its release plus its deadline, in every run that is long enough
       pub miss-is : (n t i : ℕ) → i < length tasks → t ≤ n → (task-misses order tasks sc t i ≡ true) ↔ MissIn order tasks sc n t i
-      miss-is n t i h l = (misses-shows n t i h l, shows-misses n t i h)
+      unfolding Misses TakesLonger
+      miss-is n t i h l = (
+        λ e. let (r, k, w, due, left) = late-job n t i h l e in (r, k, due, (suc w, omega arith, rw due left)),
+        λ (r, k, due, (w, some-work, left)). job-late n t i r k w h due some-work (rw due at left),
+      )
+
+      -- a run in which a job misses is long enough
+      miss-within : (n t i : ℕ) → MissIn order tasks sc n t i → t ≤ n
+      unfolding Misses TakesLonger script-run
+      miss-within n t i (r, k, due, (w, some-work, left)) = rw due at (left .reached)
+
+      shows-misses : (n t i : ℕ) → i < length tasks → MissIn order tasks sc n t i → task-misses order tasks sc t i ≡ true
+      shows-misses n t i h m = miss-is n t i h (miss-within n t i m) .1 m
 
       misses-not : (t i : ℕ) → i < length tasks → (MissAt order tasks sc t i → ⊥) → task-misses order tasks sc t i ≡ false
       misses-not t i h never = go (bool-cases (task-misses order tasks sc t i))
         where
           go : (task-misses order tasks sc t i ≡ true) ⊎ (task-misses order tasks sc t i ≡ false) → task-misses order tasks sc t i ≡ false
-          go (inl y) = absurd (never (misses-shows t t i h (le-refl t) y))
+          go (inl y) = absurd (never (miss-is t t i h (le-refl t) .0 y))
           go (inr n) = n
 
       not-misses : (n t i : ℕ) → i < length tasks → task-misses order tasks sc t i ≡ false → MissIn order tasks sc n t i → ⊥
@@ -108,7 +122,7 @@ module _ (order : List ℕ) (tasks : List Task) (sc : Script) where
         λ e.
             let f : IsFirst 0 (length tasks) (task-misses order tasks sc t) i = first-some 0 (length tasks) (task-misses order tasks sc t) e in
             let h : i < length tasks = omega (arith, f .before) in
-            (h, misses-shows t t i h (le-refl t) (f .passes), λ j l. not-misses t t j (omega arith) (f .earlier j (omega arith) l)),
+            (h, miss-is t t i h (le-refl t) .0 (f .passes), λ j l. not-misses t t j (omega arith) (f .earlier j (omega arith) l)),
         λ (h, m, lowest).
             first-is 0 (length tasks) (task-misses order tasks sc t)
             (record {
@@ -228,7 +242,7 @@ module _ (order : List ℕ) (tasks : List Task) (sc : Script) where
                         miss = (r, k, due, m)
 
                         by : Dec (u ≤ t) → ⊥
-                        by (yes l) = misser-none u .0 (calm-to u l) i h (misses-shows u u i h (le-refl u) (shows-misses n u i h miss))
+                        by (yes l) = misser-none u .0 (calm-to u l) i h (miss-is u u i h (le-refl u) .0 (shows-misses n u i h miss))
                         by (no l) = done-no-miss t u n i done (omega arith) h miss
 
                 last : LastComplete order tasks sc t

@@ -89,7 +89,7 @@ module _ (tasks : List Task) where
 -- ---- what the ledger says of the order
 
 module _ (tasks : List Task) where
-  -- a ledger goes on behind the last entry
+  -- what follows stands behind the last entry
   behind-last : (c : Ledger) (us : List Entry) (d : Entry) → after-entries tasks c (us ++ (d ∷ [])) .behind ≡ suc (standing d)
   unfolding after-entries after-entry
   behind-last c [] d = refl
