@@ -239,12 +239,15 @@ Exit status: 0 written, 2 the set is refused, 3 the text is no table, not read o
 
 const PLAY: &str = "Plays the run of SCRIPT on the set of SHEET, tick by tick, up to the first miss (of a moment's misses that of the lower task number) or until
 all jobs are done, and says how it ends; of a miss the task, the moment, and the job: when it was released, its frame, when it was due and
-how much of its work is left. Then a line for each task in priority order: its jobs, and how long the longest took.
-On a terminal the last 60 ticks follow as lanes, a character for each tick: x runs, L runs in a locked stretch, . waits, ! misses.
+how much of its work is left. Jobs of other tasks that miss at the same moment are told behind it, worked out from the script and the
+ticks. Then a line for each task in priority order: its jobs, and how long the longest took.
+On a terminal the last 60 ticks follow as lanes, a character for each tick: x runs, L starts a locked stretch, = goes on in it, . waits,
+! misses.
 
   --last N  shows the last N ticks so, on a terminal or not; 0 for none
   --json    prints one object:
-  {\"file\":SCRIPT,\"sheet\":SHEET,\"verdict\":\"missed\",\"tasks\":COUNT,\"tick\":MOMENT,\"task\":TASK,\"released\",\"frame\",\"due\",\"work\",\"left\",...
+  {\"file\":SCRIPT,\"sheet\":SHEET,\"verdict\":\"missed\",\"tasks\":COUNT,\"tick\":MOMENT,\"task\":TASK,\"released\",\"frame\",\"due\",\"work\",\"left\",
+    \"also\":[{\"task\",\"released\",\"frame\",\"due\",\"work\",\"left\"}...] (the others that miss at the same moment),...
   {\"file\":SCRIPT,\"sheet\":SHEET,\"verdict\":\"done\",\"tasks\":COUNT,\"tick\":MOMENT,\"task\":null,...
     both: \"jobs\":COUNT,\"order\":[TASK...],\"list\":[{\"task\",\"jobs\",\"done\",\"longest\":{\"ticks\",\"released\",\"frame\"} or null}...]}
   {\"file\":SCRIPT,\"sheet\":SHEET,\"verdict\":\"refused\",\"refusal\":13 or 14,\"item\":ITEM or null,\"words\":TEXT,\"fault\":TEXT,\"advice\":TEXT}

@@ -1,5 +1,5 @@
 //! The last ticks of a play as lines of text: a lane for each task in priority order, a character for each tick.
-use crate::course::{jobs_in, Course, Tick};
+use crate::course::{jobs_in, Course, Lock, Tick};
 use crate::words::counted;
 
 /// A label stands at every so many ticks.
@@ -11,7 +11,7 @@ pub fn text(course: &Course, last: u32) -> String {
     let from = end.saturating_sub(last);
     let width = course.findings.ordered.iter().map(|finding| label(finding.task).len()).max().unwrap_or(0) + 2;
     let mut text = format!("{}, highest priority first", ticks_words(from, end));
-    text += ": x runs, L in a locked stretch, . waits, ! misses\n\n";
+    text += ": x runs, L starts a locked stretch, = goes on in it, . waits, ! misses\n\n";
     text += &ruler(from, end, width);
     for finding in &course.findings.ordered {
         text += format!("{:<width$}{}", label(finding.task), lane(course, finding.task, from)).trim_end();
@@ -30,12 +30,20 @@ fn lane(course: &Course, task: usize, from: u32) -> String {
     }
     for (sign, tick) in signs.iter_mut().zip(&course.ticks[from as usize..]) {
         match *tick {
-            Tick::Runs { task: running, locked } if running == task => *sign = if locked { 'L' } else { 'x' },
+            Tick::Runs { task: running, lock } if running == task => *sign = sign_of(lock),
             _ => {}
         }
     }
-    signs.push(if course.play.missed == Some(task) { '!' } else { ' ' });
+    signs.push(if course.misses(task) { '!' } else { ' ' });
     signs.into_iter().collect()
+}
+
+fn sign_of(lock: Lock) -> char {
+    match lock {
+        Lock::Free => 'x',
+        Lock::First => 'L',
+        Lock::Later => '=',
+    }
 }
 
 fn ticks_words(from: u32, end: u32) -> String {

@@ -1,5 +1,5 @@
 //! Some ticks of a play on one axis: a lane for each task in priority order, and one for idle ticks.
-use crate::course::{due, jobs_in, Course, Job, Tick};
+use crate::course::{due, jobs_in, Course, Job, Lock, Tick};
 use crate::svg::{arrow, cross, px, Anchor, Svg, IDLE, INK, LOCKED, MISS, RUNS, WAITS};
 
 /// Where the ticks begin, and the room behind the last.
@@ -158,8 +158,9 @@ impl<'a> Panel<'a> {
         for (locked, fill) in [(false, RUNS), (true, LOCKED)] {
             svg.group(&format!("fill=\"{fill}\"{edge}"), |svg| {
                 for (place, task) in self.order() {
-                    let here = Tick::Runs { task, locked };
-                    runs.iter().filter(|run| run.0 == here).for_each(|run| self.bar(svg, self.baseline(place), BOX, run.1, run.2));
+                    let here =
+                        |tick| matches!(tick, Tick::Runs { task: running, lock } if running == task && (lock != Lock::Free) == locked);
+                    runs.iter().filter(|run| here(run.0)).for_each(|run| self.bar(svg, self.baseline(place), BOX, run.1, run.2));
                 }
             });
         }
@@ -221,7 +222,7 @@ impl<'a> Panel<'a> {
             all[at] += 1;
             match self.course.ticks[moment as usize] {
                 Tick::Idle => idle[at] += 1,
-                Tick::Runs { task, locked } => counts[task][at][usize::from(!locked)] += 1,
+                Tick::Runs { task, lock } => counts[task][at][usize::from(lock == Lock::Free)] += 1,
             }
         }
         for (_, task) in self.order() {

@@ -102,11 +102,25 @@ fn all_jobs(count: usize) -> String {
 /// The job that misses.
 pub fn missed_words(course: &Course) -> Option<String> {
     let job = course.missed_job()?;
+    Some(format!("The job that misses: task {}, {}.", job.task, job_words(course, job)))
+}
+
+/// `released at 1, frame 0, due at 1 + 4 = 5; of its work, 2 ticks, 1 is left then`.
+fn job_words(course: &Course, job: &Job) -> String {
     let Job { task, frame, released, work, left, .. } = *job;
     let deadline = course.findings.set.tasks[usize::from(task)].deadline;
     let due = format!("due at {released} + {deadline} = {}", due(&course.findings.set, job));
     let left = format!("of its work, {}, {left} {} left then", counted(work.into(), "tick"), if left == 1 { "is" } else { "are" });
-    Some(format!("The job that misses: task {task}, released at {released}, frame {frame}, {due}; {left}."))
+    format!("released at {released}, frame {frame}, {due}; {left}")
+}
+
+/// A line for each job that misses at the same moment. The play's answer is the lowest task alone.
+fn also_missed_words(course: &Course) -> String {
+    let also = |job: &Job| {
+        let words = job_words(course, job);
+        format!("Task {} misses at the same moment, by the script and the ticks: {words}.\n", job.task)
+    };
+    course.also_missed.iter().map(also).collect()
 }
 
 fn played(sheet: &Name, script: &Name, course: &Course, last: u32) -> String {
@@ -115,6 +129,7 @@ fn played(sheet: &Name, script: &Name, course: &Course, last: u32) -> String {
     let mut text = format!("{}: {}\n{UNITS}\n", script.shown(), end_words(course));
     text += &format!("The sheet, {}: {verdict}\n", sheet.shown());
     text.extend(missed_words(course).map(|words| words + "\n"));
+    text += &also_missed_words(course);
     text += "\nThe tasks, highest priority first:\n";
     text.extend(tallies(course).iter().map(|tally| tally.words(course)));
     if last > 0 && course.play.tick > 0 {

@@ -1,11 +1,12 @@
 //! `play --json` and what it shares with the other verbs on scripts.
-use crate::course::{due, Course};
+use crate::course::{due, Course, Job};
 use crate::json::{array, Object};
 use crate::names::Name;
 use crate::output::Output;
 use crate::play::{tallies, Tally};
 use crate::plays::ScriptRefusal;
 use crate::script_faults::ScriptFault;
+use crate::set::Set;
 use crate::status::{Status, Trouble};
 use crate::words;
 
@@ -20,12 +21,10 @@ pub fn played(sheet: &Name, script: &Name, course: &Course) -> String {
     let object = object(sheet, script).text("verdict", verdict).number("tasks", set.tasks.len() as u64);
     let object = object.number("tick", play.tick).task("task", play.missed);
     let object = match course.missed_job() {
-        Some(job) => object
-            .number("released", job.released)
-            .number("frame", u64::from(job.frame))
-            .number("due", due(set, job))
-            .number("work", job.work)
-            .number("left", job.left),
+        Some(job) => {
+            let also = |job: &Job| missed_fields(Object::new().number("task", job.task), set, job).close();
+            missed_fields(object, set, job).raw("also", &array(course.also_missed.iter().map(also)))
+        }
         None => object,
     };
     let object = object.number("jobs", course.jobs.len() as u64);
@@ -33,6 +32,12 @@ pub fn played(sheet: &Name, script: &Name, course: &Course) -> String {
     let mut list = tallies(course);
     list.sort_by_key(|tally| tally.task);
     object.raw("list", &array(list.iter().map(tally_object))).close() + "\n"
+}
+
+/// What is said of a job that misses.
+fn missed_fields(object: Object, set: &Set, job: &Job) -> Object {
+    let object = object.number("released", job.released).number("frame", job.frame).number("due", due(set, job));
+    object.number("work", job.work).number("left", job.left)
 }
 
 fn tally_object(tally: &Tally) -> String {

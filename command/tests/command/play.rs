@@ -1,10 +1,11 @@
 //! `play`: every end of a run, in words, as lanes and as an object.
 use crate::json::{self, number_or_null, Value};
 use crate::running::{run, run_with, shell, shipped_one, shipped_script, Folder, ROOT};
-use crate::runs::{broken, busy_set, kept};
+use crate::runs::{broken, busy_set, kept, seen, two_misses};
 use second::random::Random;
-use second::runs::Complete;
+use second::runs::{Complete, Job};
 use second::scripts::{self, Script};
+use second::task::Set;
 use second::{check_word, sheet};
 use std::path::Path;
 
@@ -26,21 +27,21 @@ The tasks, highest priority first:
 task 0: 2 jobs, all done; the longest took 4 ticks (released at 2, frame 0; response time 5)
 task 1: 1 job, done; it took 10 ticks (released at 0, frame 0; response time 12)
 
-The last 11 ticks, highest priority first: x runs, L in a locked stretch, . waits, ! misses
+The last 11 ticks, highest priority first: x runs, L starts a locked stretch, = goes on in it, . waits, ! misses
 
 tick    1        10
         123456789012
-task 0   .LLL    LL
-task 1  LL...LLLL
+task 0   .L=L    L=
+task 1  ==...L==L
 ";
 
 const LANES: &str = "
-All 5 ticks, highest priority first: x runs, L in a locked stretch, . waits, ! misses
+All 5 ticks, highest priority first: x runs, L starts a locked stretch, = goes on in it, . waits, ! misses
 
 tick    0
         012345
 task 0   ...x!
-task 1  LLLL
+task 1  L===
 ";
 
 #[test]
@@ -77,7 +78,7 @@ fn the_object_word_for_word() {
     assert_eq!(
         json("sheets/g.sheet scripts/g-worst.script", 1),
         "{\"file\":\"scripts/g-worst.script\",\"sheet\":\"sheets/g.sheet\",\"verdict\":\"missed\",\"tasks\":2,\"tick\":5,\"task\":0,\"released\":1,\
-         \"frame\":0,\"due\":5,\"work\":2,\"left\":1,\"jobs\":2,\"order\":[0,1],\"list\":[{\"task\":0,\"jobs\":1,\"done\":0,\"longest\":null},\
+         \"frame\":0,\"due\":5,\"work\":2,\"left\":1,\"also\":[],\"jobs\":2,\"order\":[0,1],\"list\":[{\"task\":0,\"jobs\":1,\"done\":0,\"longest\":null},\
          {\"task\":1,\"jobs\":1,\"done\":1,\"longest\":{\"ticks\":4,\"released\":0,\"frame\":0}}]}\n"
     );
     let done = json::object(json("sheets/f.sheet scripts/f-exactly-4.script", 0).trim_end());
@@ -129,6 +130,20 @@ fn longest(complete: &[Complete], task: usize) -> Value {
     }
 }
 
+/// A job that misses beside the one that the play names.
+fn also(set: &Set, script: &Script, job: &Job) -> Value {
+    let entry = script.entries.iter().find(|entry| (u64::from(entry.tick), entry.task as usize) == (job.release, job.task));
+    let fields = [
+        ("task", job.task as u64),
+        ("released", job.release),
+        ("frame", job.frame as u64),
+        ("due", job.release + u64::from(set.tasks[job.task].deadline)),
+        ("work", entry.expect("its entry").work.into()),
+        ("left", job.left.into()),
+    ];
+    Value::Object(fields.map(|(name, number)| (name.to_string(), Value::Number(number))).into())
+}
+
 /// Compared with the second reading: how each run ends, when, whose miss it is, and what became of the jobs.
 #[test]
 fn random_runs() {
@@ -150,29 +165,65 @@ fn random_runs() {
         for (task, tally) in object.get("list").items().iter().enumerate() {
             assert_eq!(tally.get("longest"), &longest(&expected.complete, task));
         }
-        // the lanes show what each tick had
+        let seen = seen(&set, &script);
+        if let Some((_, others)) = seen.missed.split_first() {
+            let also: Vec<Value> = others.iter().map(|job| also(&set, &script, job)).collect();
+            assert_eq!(object.get("also"), &Value::Array(also));
+        }
+        // the lanes show what each tick had, and every miss
         let ran = shell(&folder.0, "\"$0\" play s r --last 70");
-        let end = expected.shown.len();
-        for (tick, &shown) in expected.shown.iter().enumerate().skip(end.saturating_sub(70)) {
-            let column = tick - end.saturating_sub(70);
-            let lane = |task: usize| {
-                let is_lane =
-                    |line: &&str| line.strip_prefix("task ").is_some_and(|rest| rest.split(' ').next() == Some(&task.to_string()));
-                let lane = ran.text().lines().rev().find(is_lane).expect("a lane").as_bytes();
-                let width = if set.tasks.len() > 10 { 9 } else { 8 };
-                lane.get(width + column).copied().unwrap_or(b' ')
-            };
-            for task in 0..set.tasks.len() {
-                let runs = usize::from(shown & 31) == task;
-                let sign = lane(task);
-                assert_eq!(runs, sign == b'x' || sign == b'L', "{}", ran.text());
-                assert_eq!(runs && shown & 32 != 0, sign == b'L', "{}", ran.text());
+        let from = seen.ticks.len().saturating_sub(70);
+        for task in (0..set.tasks.len()).filter(|_| !seen.ticks.is_empty()) {
+            let is_lane = |line: &&str| line.strip_prefix("task ").is_some_and(|rest| rest.split(' ').next() == Some(&task.to_string()));
+            let lane = ran.text().lines().rev().find(is_lane).expect("a lane").as_bytes();
+            let width = if set.tasks.len() > 10 { 9 } else { 8 };
+            let sign = |tick: usize| lane.get(width + tick - from).copied().unwrap_or(b' ');
+            for (tick, &(running, runs)) in seen.ticks.iter().enumerate().skip(from) {
+                match running == Some(task) {
+                    true => assert_eq!(sign(tick), runs, "{}", ran.text()),
+                    false => assert!(matches!(sign(tick), b' ' | b'.'), "{}", ran.text()),
+                }
             }
+            let misses = seen.missed.iter().any(|job| job.task == task);
+            assert_eq!(sign(seen.ticks.len()) == b'!', misses, "{}", ran.text());
         }
         *(if expected.missed.is_some() { &mut missed } else { &mut done }) += 1;
     }
     println!("400 random runs: {missed} miss, {done} are done");
     assert!(missed >= 40 && done >= 40);
+}
+
+const TWO_MISS: &str = "r: task 1 misses at 8, the end of tick 7
+Times are ticks; tasks and frames count from 0.
+The sheet, s: missed, 4 tasks: task 0 misses, blocker 3
+The job that misses: task 1, released at 2, frame 0, due at 2 + 6 = 8; of its work, 5 ticks, 2 are left then.
+Task 2 misses at the same moment, by the script and the ticks: released at 2, frame 0, due at 2 + 6 = 8; of its work, 4 ticks, 4 are left then.
+
+The tasks, highest priority first:
+task 0: 1 job, done; it took 5 ticks (released at 3, frame 0; deadline 5, the task does not pass)
+task 1: 1 job, not done
+task 2: 1 job, not done
+task 3: 1 job, not done
+
+All 8 ticks, highest priority first: x runs, L starts a locked stretch, = goes on in it, . waits, ! misses
+
+tick    0
+        012345678
+task 0     ..xxx
+task 1    L==...!
+task 2    ......!
+task 3  L=......
+";
+
+/// The play names the lower task; the other is told behind it.
+#[test]
+fn a_second_miss_at_the_same_moment() {
+    let folder = two_misses("two-misses");
+    assert_eq!(shell(&folder.0, "\"$0\" play s r --last 60").done(1), TWO_MISS);
+    let object = shell(&folder.0, "\"$0\" play s r --json");
+    let object = json::object(object.done(1).trim_end());
+    assert_eq!((object.get("task").number(), object.get("also").items().len()), (1, 1));
+    assert_eq!(object.get("also").items()[0].get("task").number(), 2);
 }
 
 /// 14 of every item in every way: the number, the item and the rule.

@@ -1,6 +1,8 @@
 //! Scripts for tests: random runs, and every way to break one item.
+use crate::running::{shell, Folder};
 use second::generate::{admitted_set, edge_set, set_of, Shape};
 use second::random::Random;
+use second::runs::{Job, Player};
 use second::scripts::{Entry, Script};
 use second::task::Set;
 
@@ -100,4 +102,54 @@ pub fn text(script: &Script) -> (String, impl Fn(usize) -> usize) {
     }
     let tasks = script.first_frames.len();
     (text, move |item: usize| if item < tasks { 3 } else { 6 + 2 * (item - tasks) })
+}
+
+/// What is seen of a run that keeps the rules, by the second reading.
+pub struct Seen {
+    /// Of each tick the task that has it, and its sign in the lanes.
+    pub ticks: Vec<(Option<usize>, u8)>,
+    /// All jobs that miss at its end, by task number.
+    pub missed: Vec<Job>,
+}
+
+pub fn seen(set: &Set, script: &Script) -> Seen {
+    let mut player = Player::new(set, script.first_frames.iter().map(|&frame| frame as usize).collect());
+    let (mut ticks, mut next) = (Vec::new(), 0);
+    while player.missed.is_empty() {
+        while script.entries.get(next).is_some_and(|entry| u64::from(entry.tick) == player.now()) {
+            player.release(script.entries[next].task as usize, script.entries[next].work).expect("a release");
+            next += 1;
+        }
+        if next == script.entries.len() && player.running().is_none() {
+            break;
+        }
+        let lock = player.running_job().map_or(0, |job| {
+            let is_of = |entry: &&Entry| (u64::from(entry.tick), entry.task as usize) == (job.release, job.task);
+            script.entries.iter().find(is_of).expect("its entry").lock
+        });
+        let starts = !player.in_stretch() && lock >= 2;
+        let sign = match (player.in_stretch(), starts) {
+            (true, _) => b'=',
+            (false, true) => b'L',
+            (false, false) => b'x',
+        };
+        ticks.push((player.running(), sign));
+        player.tick(if starts { lock } else { 0 }).expect("a tick");
+    }
+    player.missed.sort_by_key(|job| job.task);
+    Seen { ticks, missed: player.missed }
+}
+
+/// A folder with a sheet `s` and a script `r`, made from a table and a text.
+pub fn made(test: &str, tasks: &str, first_frames: &str, entries: &str) -> Folder {
+    let folder = Folder::new(test);
+    folder.file("t", format!("policy 0\ntask period deadline lock frames\n{tasks}").as_bytes());
+    folder.file("r.text", format!("first-frames {first_frames}\ntask tick work lock\n{entries}").as_bytes());
+    assert_eq!(shell(&folder.0, "\"$0\" compose t -o s && \"$0\" script compose s r.text -o r").done(0), "");
+    folder
+}
+
+/// Tasks 1 and 2 miss at 8.
+pub fn two_misses(test: &str) -> Folder {
+    made(test, "0 10 5 0 3\n1 20 6 3 5\n2 20 6 0 4 2\n3 30 30 4 6\n", "0 0 0 0", "3 0 6 2\n1 2 5 3\n2 2 4 0\n0 3 3 0\n")
 }

@@ -238,6 +238,20 @@ fn the_bytes_of_the_paper() {
     }
 }
 
+/// The lanes of case F and case G in docs/SHEET.md, and of G in docs/SCRIPT.md, are those of the shipped scripts.
+#[test]
+fn the_lanes_of_the_papers() {
+    let lanes = |sheet: &str, script: &str, status| {
+        let played = shell(Path::new(ROOT), &format!("\"$0\" play {sheet} {script} --last 60"));
+        let lines: Vec<String> = played.done(status).lines().rev().take(4).map(|line| format!("    {line}\n")).collect();
+        lines.into_iter().rev().collect::<String>()
+    };
+    let (f, g) = (lanes("sheets/f.sheet", "scripts/f-exactly-4.script", 0), lanes("sheets/g.sheet", "scripts/g-worst.script", 1));
+    let paper = |name: &str| std::fs::read_to_string(format!("{ROOT}/docs/{name}")).unwrap();
+    assert!(paper("SHEET.md").contains(&f) && paper("SHEET.md").contains(&g), "{f}\n{g}");
+    assert!(paper("SCRIPT.md").contains(&g), "{g}");
+}
+
 /// What the papers print of the worst run of case G is what the command prints.
 #[test]
 fn the_words_of_the_papers() {
