@@ -2,6 +2,7 @@
 use crate::course::{self, Course};
 use crate::delivery::{say, Made};
 use crate::input::{self, Pipes};
+use crate::lettering::shortened;
 use crate::names::Name;
 use crate::output::Output;
 use crate::picture::Picture;
@@ -29,7 +30,7 @@ pub fn run(options: &DrawOptions, output: &mut Output) -> Result<Status, Trouble
         Some(name) => {
             let bytes = input::next_script(name, &mut pipes)?;
             match course::of(&sheet_bytes, &bytes)? {
-                Ok(course) => (course, format!("the run of {}", cut(name.shown()))),
+                Ok(course) => (course, format!("the run of {}", name.shown())),
                 Err(refused) => {
                     say(&refused_text(false, sheet, name, refused, &sheet_bytes, &bytes)?, to.as_ref(), output)?;
                     return Ok(Status::Refused);
@@ -51,10 +52,7 @@ pub fn run(options: &DrawOptions, output: &mut Output) -> Result<Status, Trouble
             }
         },
     };
-    match course.play.tick {
-        0 => say(&format!("{}: {}; there is no tick, and nothing is drawn\n", sheet.shown(), end_words(&course)), to.as_ref(), output)?,
-        _ => deliver(options, &course, &run_name, output)?,
-    }
+    deliver(options, &course, &run_name, output)?;
     Ok(status_of(&course))
 }
 
@@ -63,14 +61,13 @@ fn deliver(options: &DrawOptions, course: &Course, run_name: &str, output: &mut 
     let (from, to_tick) = range(options, course.play.tick)?;
     let end = end_words(course);
     let verdict = words::verdict(course.findings.verdict, course.findings.set.tasks.len());
-    let shown = match (from, to_tick) == (0, course.play.tick) {
-        true => format!("all of it, ticks 0 to {}", to_tick - 1),
-        false => format!("ticks {from} to {} of 0 to {}", to_tick - 1, course.play.tick - 1),
-    };
-    let mut lines = vec![words::policy(course.findings.set.policy), format!("{}: {end}.", capital(run_name))];
+    let shown = shown_words(from, to_tick, course.play.tick);
+    let mut lines = vec![words::policy(course.findings.set.policy), format!("{}: {end}.", capital(&shortened(run_name)))];
     lines.extend(missed_words(course));
+    lines.extend(also_missed_words(course));
     lines.push(format!("Shown: {shown}."));
-    let picture = Picture { course, from, to: to_tick, title: format!("{}: {verdict}", cut(sheet.shown())), lines };
+    let (name, title) = (format!("{}: {verdict}", sheet.shown()), format!("{}: {verdict}", shortened(&sheet.shown())));
+    let picture = Picture { course, from, to: to_tick, name, title, lines };
     let inputs: Vec<(&Name, &str)> = [(sheet, "the sheet")].into_iter().chain(script.iter().map(|name| (name, "the script"))).collect();
     let made = Made { not_for_a_terminal: "a picture is nothing to read", of: &inputs };
     made.deliver(picture.svg().as_bytes(), to.as_ref(), output)?;
@@ -78,22 +75,33 @@ fn deliver(options: &DrawOptions, course: &Course, run_name: &str, output: &mut 
     say(&format!("{place}: {run_name}, {shown}: {end}\n"), to.as_ref(), output)
 }
 
+/// The tasks that miss beside the one that the play names.
+fn also_missed_words(course: &Course) -> Option<String> {
+    let tasks: Vec<u32> = course.also_missed.iter().map(|job| job.task.into()).collect();
+    let (last, others) = tasks.split_last()?;
+    Some(match others {
+        [] => format!("Task {last} misses at the same moment, by the script and the ticks."),
+        _ => format!("Tasks {} and {last} miss at the same moment, by the script and the ticks.", words::joined(others, ", ")),
+    })
+}
+
+fn shown_words(from: u32, to: u32, end: u32) -> String {
+    match (from, to) {
+        (0, 0) => "no tick is played".to_string(),
+        (0, _) if to == end => format!("all of it, ticks 0 to {}", to - 1),
+        _ => format!("ticks {from} to {} of 0 to {}", to - 1, end - 1),
+    }
+}
+
 /// The ticks that are drawn: those that were asked for, as far as there are any.
 fn range(options: &DrawOptions, end: u32) -> Result<(u32, u32), Trouble> {
     let (from, to) = (options.from_tick.unwrap_or(0), options.to_tick.unwrap_or(end).min(end));
     let usage = |words: String| Err(Trouble::Usage(words));
     match (options.from_tick, options.to_tick) {
+        (Some(from), _) if end == 0 => usage(format!("--from {from}: no tick is played in this run")),
+        _ if end == 0 => Ok((0, 0)),
         _ if from >= end => usage(format!("--from {from} is not before the end of the run, {end}: its ticks are 0 to {}", end - 1)),
         (_, Some(to)) if from >= to => usage(format!("--from {from} is not before --to {to}")),
         _ => Ok((from, to)),
-    }
-}
-
-/// The end of a name that is too long for a picture.
-fn cut(name: String) -> String {
-    const MOST: usize = 60;
-    match name.chars().count().checked_sub(MOST) {
-        None | Some(0) => name,
-        Some(surplus) => format!("...{}", name.chars().skip(surplus + 3).collect::<String>()),
     }
 }

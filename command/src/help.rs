@@ -271,17 +271,19 @@ Exit status, that of the set: 0 holds (nothing is written), 1 missed (the script
 ";
 
 const DRAW: &str = "Writes a timeline of the run as an SVG picture, to standard output or to FILE with -o: the whole file or none. There is a lane for each
-task, the highest priority on top: releases are arrows up, deadlines arrows down, running and locked ticks boxes of two colours, waiting
-grey; idle ticks are at the bottom, and a miss is a red cross. Without SCRIPT it is the worst run of a set that misses; of a set that holds
-it says so and writes nothing. It chooses its scale; where a tick is narrower than a pixel the height of a colour is its share of the ticks,
-and the first and the last 60 ticks are drawn once more, enlarged.
+task, the highest priority on top: releases are arrows up, deadlines arrows down, running ticks, the first tick of a locked stretch and its
+others boxes of three colours, waiting grey; idle ticks are at the bottom, and a miss is a red cross, a thin one for each other task that
+misses at the same moment. Without SCRIPT it is the worst run of a set that misses; of a set that holds it says so and writes nothing.
+It chooses its scale; where a tick is narrower than a pixel the height of a colour is its share of the ticks, a line under each lane tells
+what is there if only for one tick, and the first and the last 60 ticks are drawn once more, enlarged. A run in which no tick is played is
+drawn as lanes that say so.
 What is said stands on standard output, or on standard error where the picture goes there.
 
   --from N  draws from tick N on
   --to N    draws up to moment N, which is the end of tick N - 1
 
-Exit status: 0 no job misses in the run, or the set holds and nothing is drawn, 1 a job misses, 2 the sheet or the script is refused,
-3 not read or not written, or usage.
+Exit status: 0 no job misses in the run, be it one without ticks, or the set holds and nothing is drawn, 1 a job misses, 2 the sheet or the
+script is refused, 3 not read or not written, or usage.
 ";
 
 const SCRIPT_COMPOSE: &str =

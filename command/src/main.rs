@@ -19,6 +19,8 @@ mod help;
 mod input;
 mod json;
 mod lanes;
+mod legend;
+mod lettering;
 mod library;
 mod names;
 mod output;

@@ -1,14 +1,18 @@
-//! The picture of a play: words, a timeline, where that is dense the end once more, and what the signs mean. What a tick has is the
+//! The picture of a play: words, a timeline, where that is dense its ends once more, and what the signs mean. What a tick has is the
 //! trace's, releases are the script's, deadlines the sheet's.
 use crate::course::Course;
+use crate::legend::Legend;
+use crate::lettering::{wrapped, BOLD};
 use crate::panel::{Panel, LEAST_PLOT, LEFT, PLOT, RIGHT};
-use crate::svg::{arrow, cross, Anchor, Svg, IDLE, INK, LOCKED, MISS, RUNS, WAITS};
+use crate::svg::{Anchor, Svg};
 
 /// The part of the play that is drawn, and what is said above it.
 pub struct Picture<'a> {
     pub course: &'a Course,
     pub from: u32,
     pub to: u32,
+    /// For readers of the screen, with the whole name of the sheet.
+    pub name: String,
     pub title: String,
     pub lines: Vec<String>,
 }
@@ -16,84 +20,66 @@ pub struct Picture<'a> {
 const MARGIN: f64 = 20.0;
 const LINE: f64 = 18.0;
 
+/// The sizes of the title and of the lines under it.
+const TITLE: f64 = 16.0;
+const WORDS: f64 = 12.0;
+
 /// How many of the first and of the last ticks are drawn once more where a tick of the whole is narrower than a pixel, and the gap
 /// between the two.
 const ENLARGED: u32 = 60;
 const GAP: f64 = 60.0;
 
-/// The width of a letter, about.
-const LETTER: f64 = 6.3;
-
 impl Picture<'_> {
     pub fn svg(&self) -> String {
         let mut svg = Svg::new();
-        let top = self.head(&mut svg);
-        let whole = Panel::new(self.course, self.from, self.to, top);
-        whole.labels(&mut svg);
-        whole.draw(&mut svg);
-        let bottom = if whole.is_dense() { self.ends(&whole, &mut svg) } else { whole.bottom() };
-        let bottom = legend(&mut svg, bottom + LINE, whole.is_dense());
-        svg.close(LEFT + whole.width().max(LEAST_PLOT) + RIGHT, bottom + 10.0, &self.title)
+        let whole = Panel::new(self.course, self.from, self.to);
+        let width = LEFT + whole.width().max(LEAST_PLOT) + RIGHT;
+        let top = self.head(&mut svg, width - 2.0 * MARGIN);
+        let whole = whole.below(top);
+        let ends = if whole.is_dense() { self.ends(&whole, &mut svg) } else { Vec::new() };
+        let panels: Vec<Panel> = [whole].into_iter().chain(ends).collect();
+        panels.iter().for_each(|panel| panel.draw(&mut svg));
+        let bottom = panels.iter().map(Panel::bottom).fold(0.0, f64::max);
+        let bottom = self.legend(&panels).draw(&mut svg, MARGIN, bottom + LINE, width - 2.0 * MARGIN);
+        svg.close(width, bottom + 10.0, &self.name)
     }
 
-    /// The first ticks and the last once more, beside each other; answers where they end. A dense panel has many more.
-    fn ends(&self, whole: &Panel, svg: &mut Svg) -> f64 {
+    fn legend(&self, panels: &[Panel]) -> Legend {
+        let missed = self.course.play.missed.is_some() && self.to == self.course.play.tick;
+        Legend {
+            shares: panels.iter().any(Panel::is_dense),
+            strokes: panels.iter().any(Panel::uses_strokes),
+            parted: panels.iter().any(Panel::is_parted),
+            missed,
+            also_missed: missed && !self.course.also_missed.is_empty(),
+        }
+    }
+
+    /// The first ticks and the last once more, beside each other, with their titles. A dense panel has many more.
+    fn ends<'a>(&self, whole: &Panel<'a>, svg: &mut Svg) -> Vec<Panel<'a>> {
         let (top, width) = (whole.bottom() + 1.5 * LINE, (PLOT - GAP) / 2.0);
-        let first = whole.part(self.from, self.from + ENLARGED, LEFT, width, top);
-        let last = whole.part(self.to - ENLARGED, self.to, LEFT + width + GAP, width, top);
-        first.labels(svg);
-        for (panel, left, which) in [(&first, LEFT, "first"), (&last, LEFT + width + GAP, "last")] {
+        let ends = [(self.from, LEFT, "first"), (self.to - ENLARGED, LEFT + width + GAP, "last")];
+        let mut end = |(from, left, which)| {
             let words = format!("The {which} {ENLARGED} ticks of it, enlarged");
             svg.group("font-weight=\"bold\"", |svg| svg.text(left, whole.bottom() + LINE, Anchor::Start, &words));
-            panel.draw(svg);
-        }
-        first.bottom()
+            whole.part(from, from + ENLARGED, left, width, top)
+        };
+        ends.map(&mut end).into()
     }
 
     /// The words above the lanes; answers where they end.
-    fn head(&self, svg: &mut Svg) -> f64 {
-        svg.group("font-size=\"16\" font-weight=\"bold\"", |svg| svg.text(MARGIN, 28.0, Anchor::Start, &self.title));
-        for (number, line) in self.lines.iter().enumerate() {
-            svg.text(MARGIN, 50.0 + LINE * number as f64, Anchor::Start, line);
+    fn head(&self, svg: &mut Svg, room: f64) -> f64 {
+        let mut y = 28.0;
+        svg.group(&format!("font-size=\"{TITLE}\" font-weight=\"bold\""), |svg| {
+            for line in wrapped(&self.title, BOLD * TITLE, room) {
+                svg.text(MARGIN, y, Anchor::Start, &line);
+                y += 22.0;
+            }
+        });
+        for line in self.lines.iter().flat_map(|line| wrapped(line, WORDS, room)) {
+            svg.text(MARGIN, y, Anchor::Start, &line);
+            y += LINE;
         }
-        64.0 + LINE * self.lines.len() as f64
+        y + 14.0
     }
-}
-
-/// What the signs mean; answers where it ends.
-fn legend(svg: &mut Svg, top: f64, dense: bool) -> f64 {
-    let boxes = [(RUNS, "runs"), (LOCKED, "runs in a locked stretch"), (WAITS, "released and waits"), (IDLE, "idle: no job is pending")];
-    let mut x = MARGIN;
-    for (fill, words) in boxes {
-        svg.group(&format!("fill=\"{fill}\" stroke=\"{INK}\" stroke-width=\"0.5\""), |svg| svg.rect(x, top - 10.0, 14.0, 11.0));
-        x = sign_words(svg, x, top, words);
-    }
-    let y = top + LINE + 4.0;
-    let mut x = MARGIN;
-    type Sign = fn(f64, f64) -> String;
-    let signs: [(Sign, &str, &str); 3] = [
-        (|x, y| arrow(x + 7.0, y + 2.0, y - 12.0), INK, "release"),
-        (|x, y| arrow(x + 7.0, y - 12.0, y + 2.0), INK, "deadline"),
-        (|x, y| cross(x + 1.0, y - 11.0), MISS, "miss: the deadline is reached with work left"),
-    ];
-    for (sign, colour, words) in signs {
-        svg.group(&format!("stroke=\"{colour}\" stroke-width=\"1.5\" fill=\"none\""), |svg| svg.path(&sign(x, y)));
-        x = sign_words(svg, x, y, words);
-    }
-    let notes = [
-        "Highest priority on top. T period, D deadline, Q lock. Tick k is the space from k to k + 1.",
-        "Where a tick is narrower than a pixel, the height of a colour is its share of the pixel's ticks. Releases that are too close for \
-         arrows are strokes above a lane, deadlines below.",
-    ];
-    let notes = &notes[..if dense { 2 } else { 1 }];
-    svg.group("fill=\"#555\" font-size=\"11\"", |svg| {
-        notes.iter().zip(1..).for_each(|(note, line)| svg.text(MARGIN, y + LINE * f64::from(line), Anchor::Start, note));
-    });
-    y + LINE * notes.len() as f64
-}
-
-/// The words behind a sign; answers where the next sign has room.
-fn sign_words(svg: &mut Svg, x: f64, y: f64, words: &str) -> f64 {
-    svg.text(x + 20.0, y, Anchor::Start, words);
-    x + 38.0 + LETTER * words.len() as f64
 }

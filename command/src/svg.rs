@@ -1,11 +1,15 @@
 //! Shapes and texts of an SVG picture.
 
 pub const RUNS: &str = "#7fb2e5";
-pub const LOCKED: &str = "#b3440c";
+/// The first tick of a locked stretch, and the others.
+pub const STARTS: &str = "#5c1a00";
+pub const LOCKED: &str = "#d2691e";
 pub const WAITS: &str = "#e8e8e8";
 pub const IDLE: &str = "#9aa58c";
 pub const INK: &str = "#222";
 pub const MISS: &str = "#d4002a";
+pub const GRID: &str = "#ddd";
+pub const STROKE: &str = "#666";
 
 /// A picture in the making.
 pub struct Svg(String);

@@ -1,6 +1,6 @@
 //! `draw`: a picture for every run, whole, small and free of scripts and links.
 use crate::running::{run, shell, shipped_one, shipped_script, Folder, Ran, ROOT};
-use crate::runs::{busy_set, kept};
+use crate::runs::{busy_set, kept, made, two_misses};
 use second::random::Random;
 use second::{scripts, sheet};
 use std::path::Path;
@@ -20,6 +20,32 @@ fn is_plain_svg(picture: &str) {
     }
     assert!(open.is_empty());
     assert!(!picture.contains("href") && !picture.contains("url(") && !picture.contains("NaN") && !picture.contains("inf"));
+}
+
+/// The colours of a stretch's first tick and of its others, of running and of waiting, and of misses and strokes.
+const STARTS: &str = "#5c1a00";
+const LOCKED: &str = "#d2691e";
+const RUNS: &str = "#7fb2e5";
+const WAITS: &str = "#e8e8e8";
+const MISS: &str = "#d4002a";
+const STROKE: &str = "#666";
+
+/// The shapes of the groups that have a colour, but for those of the legend, which come last.
+fn shapes<'a>(picture: &'a str, colour: &str) -> Vec<&'a str> {
+    let (panels, _) = picture.split_once(">runs</text>").expect("a legend");
+    let groups = panels.split("<g ").filter(|group| group.split('>').next().is_some_and(|head| head.contains(&format!("=\"{colour}\""))));
+    let mut shapes: Vec<&str> = groups.flat_map(|group| group.split("</g>").next().unwrap().lines().skip(1)).collect();
+    shapes.retain(|shape| shape.starts_with("<rect") || shape.starts_with("<path"));
+    if colour == RUNS {
+        // the legend's first sign stands before its words
+        shapes.pop();
+    }
+    shapes
+}
+
+/// The words of a picture.
+fn texts(picture: &str) -> Vec<&str> {
+    picture.split("<text ").skip(1).map(|text| text.split('>').nth(1).unwrap().split('<').next().unwrap()).collect()
 }
 
 fn drawn(ran: &Ran, status: i32) -> &str {
@@ -49,6 +75,7 @@ fn the_worst_run_of_case_g() {
     // the boxes: one tick of task 0, four locked ones of task 1
     assert!(picture.contains("<rect x=\"350\" y=\"154\" width=\"40\" height=\"18\"/>"), "{picture}");
     assert!(picture.contains("<rect x=\"190\" y=\"198\" width=\"160\" height=\"18\"/>"), "{picture}");
+    assert_eq!(shapes(picture, STARTS), ["<rect x=\"190\" y=\"198\" width=\"40\" height=\"18\"/>"]);
     let script = run(&["draw", &shipped_one("g"), &shipped_script("g-worst")]);
     assert!(drawn(&script, 1).contains("g-worst.script: task 0 misses at 5"));
 }
@@ -143,7 +170,7 @@ fn random_runs_give_whole_pictures() {
         folder.file("r", &bytes);
         let ran = shell(&folder.0, "\"$0\" draw s r");
         match play.tick {
-            0 => assert!(ran.failed(0).contains("there is no tick, and nothing is drawn")),
+            0 => assert!(drawn(&ran, 0).contains(">no tick is played<")),
             _ => assert_eq!(drawn(&ran, play.missed.is_some().into()).contains("misses at"), play.missed.is_some()),
         }
     }
@@ -164,4 +191,129 @@ fn odd_names_and_files() {
     assert!(shell(&folder.0, "\"$0\" draw '<g>&\"' r -o r").failed(3).contains("this is the script itself"));
     assert!(shell(&folder.0, "\"$0\" draw no-such-sheet").failed(3).contains("no-such-sheet: No such file"));
     assert!(shell(&folder.0, "\"$0\" draw '<g>&\"' no-such-script").failed(3).contains("no-such-script: No such file"));
+}
+
+/// A stretch that starts anew where another ends is seen, in `scripts/f-exactly-4.script` after a pause and in another run at once.
+#[test]
+fn stretches_that_start_anew() {
+    let ran = shell(Path::new(ROOT), "\"$0\" draw sheets/f.sheet scripts/f-exactly-4.script");
+    let box_at = |x: u32, ticks: u32| format!("<rect x=\"{x}\" y=\"180\" width=\"{}\" height=\"18\"/>", 40 * ticks);
+    assert_eq!(shapes(drawn(&ran, 0), STARTS), [box_at(190, 1), box_at(390, 1)]);
+    assert_eq!(shapes(ran.text(), LOCKED), [box_at(190, 3), box_at(390, 2)]);
+    let folder = made("draw-anew", "0 20 20 3 7\n", "0", "0 0 7 3\n");
+    let ran = shell(&folder.0, "\"$0\" draw s r");
+    assert_eq!((shapes(drawn(&ran, 0), STARTS).len(), shapes(ran.text(), LOCKED).len()), (3, 3));
+    // a part that begins inside a stretch does not start one
+    let ran = shell(&folder.0, "\"$0\" draw s r --from 1");
+    assert_eq!((shapes(drawn(&ran, 0), STARTS).len(), shapes(ran.text(), LOCKED).len()), (2, 3));
+    assert!(ran.text().contains(">starts a locked stretch<") && ran.text().contains(">goes on in it<"));
+}
+
+#[test]
+fn a_second_miss_has_its_own_cross() {
+    let folder = two_misses("draw-two-misses");
+    let ran = shell(&folder.0, "\"$0\" draw s r");
+    let picture = drawn(&ran, 1);
+    let words = "Task 2 misses at the same moment, by the script and the ticks.";
+    assert!(picture.contains(words) && picture.contains(">task 1 misses at 8, task 2 too<"));
+    assert!(picture.contains(">misses at the same moment; the play names the lowest task number<"));
+    // a dashed line, the cross of task 1, and that of task 2 a lane below
+    let marks = shapes(picture, MISS);
+    let crosses: Vec<&str> = marks[1..].iter().map(|path| path.split(['M', 'l']).nth(1).unwrap()).collect();
+    assert_eq!((marks.len(), crosses.as_slice()), (3, ["516 219", "516 263"].as_slice()), "{marks:?}");
+    // where the miss is not shown there is no sign of it
+    let part = shell(&folder.0, "\"$0\" draw s r --to 7");
+    assert!(shapes(drawn(&part, 1), MISS).is_empty() && !part.text().contains(">misses at the same moment"));
+}
+
+/// Eight ticks are a pixel: of those that each pixel has two are locked, one of which starts its stretch.
+#[test]
+fn a_share_has_its_height() {
+    let entries: String = (0..1120).map(|job| format!("0 {} 2 2\n", 8 * job)).collect();
+    let folder = made("draw-shares", "0 8 8 2 2\n1 9000 9000 0 10\n", "0 0", &format!("{entries}1 8959 1 0\n"));
+    let ran = shell(&folder.0, "\"$0\" draw s r --to 8960");
+    let picture = drawn(&ran, 0);
+    let share = |height: f64| format!("<path d=\"M190 154V{}H1310V154Z\"/>", 154.0 - height);
+    assert_eq!(shapes(picture, LOCKED)[0], share(18.0 / 4.0));
+    assert_eq!(shapes(picture, STARTS)[0], share(2.3));
+    assert!(picture.contains(">under a lane: at least one such tick<") && picture.contains("a share of less than a line cannot be seen"));
+}
+
+/// One locked tick, and one that runs, of a hundred thousand: the share cannot be seen, the line under the lane can.
+#[test]
+fn a_single_tick_is_not_overlooked() {
+    let tasks = "0 1048575 1048575 0 100000\n1 1048575 300000 2 100000\n2 1048575 300000 0 1\n";
+    let folder = made("draw-single", tasks, "0 0 0", "0 0 50000 0\n1 0 1 2\n2 60000 1 0\n0 1048575 1 0\n");
+    let ran = shell(&folder.0, "\"$0\" draw s r --to 100000");
+    let picture = drawn(&ran, 0);
+    // pixel 560 of the plot has 89 ticks; the line is half a pixel wider on both sides
+    let [share, under] = ["<path d=\"M750 198V197.8H751V198Z\"/>", "<path d=\"M749.5 200.5h2v3.5h-2z\"/>"];
+    assert_eq!(shapes(picture, LOCKED), [share, under]);
+    let line = |fill: &str, y: &str| shapes(picture, fill).iter().filter(|path| path.contains(&format!(" {y}h"))).count();
+    assert_eq!((line(RUNS, "244.5"), line(WAITS, "200.5")), (1, 1));
+    assert!(shapes(picture, RUNS).iter().any(|path| path.starts_with("<path d=\"M862 244.5h1v3.5h-1z\"")));
+}
+
+/// Strokes where arrows have no room, in pictures whose ticks are wider than a pixel and in those whose are not.
+#[test]
+fn every_mark_stands_in_the_legend() {
+    let entries: String = (0..700).map(|job| format!("0 {} 2 0\n", 3 * job)).collect();
+    let folder = made("draw-legend", "0 3 3 0 2\n1 30 30 0 9\n", "0 0", &entries);
+    for (options, strokes, parted) in [("", true, true), ("--to 600", true, false), ("--to 300", false, false), ("--to 60", false, true)] {
+        let ran = shell(&folder.0, &format!("\"$0\" draw s r {options}"));
+        let picture = drawn(&ran, 0);
+        let has = |words: &str| texts(picture).iter().any(|text| text.contains(words));
+        assert_eq!(
+            (shapes(picture, STROKE).is_empty(), has("releases too close for arrows, above the lane")),
+            (!strokes, strokes),
+            "{options}"
+        );
+        assert_eq!((shapes(picture, "#fff").is_empty(), has("White lines part the ticks of a box.")), (!parted, parted), "{options}");
+        assert!(has("Pale lines stand at numbered moments.") && !has("miss: "));
+    }
+    let g = shell(Path::new(ROOT), "\"$0\" draw sheets/g.sheet");
+    assert!(drawn(&g, 1).contains(">miss: the deadline is reached with work left<") && g.text().contains(">its moment<"));
+}
+
+#[test]
+fn a_run_without_ticks_is_drawn() {
+    for (entries, end) in
+        [("", "no job is released, and so none misses"), ("0 0 0 0\n", "no job misses; the one job is done at 0, before any tick")]
+    {
+        let folder = made("draw-no-tick", "0 10 4 0 2\n1 20 20 3 5\n", "0 0", entries);
+        let ran = shell(&folder.0, "\"$0\" draw s r -o p");
+        assert_eq!(ran.done(0), format!("p: the run of r, no tick is played: {end}\n"));
+        let picture = std::fs::read_to_string(folder.0.join("p")).unwrap();
+        is_plain_svg(&picture);
+        for words in ["Shown: no tick is played.", &format!("The run of r: {end}."), "task 1", "no tick is played"] {
+            assert!(texts(&picture).contains(&words), "{words}");
+        }
+        assert_eq!(shell(&folder.0, "\"$0\" draw s r --to 7").out, picture.as_bytes());
+        assert!(shell(&folder.0, "\"$0\" draw s r --from 0").failed(3).contains("--from 0: no tick is played in this run"));
+    }
+}
+
+/// Names of every kind of letter are shortened in their middle, and the whole name is in the title that is not shown.
+#[test]
+fn long_names_stay_in_the_picture() {
+    let folder = Folder::new("draw-long-names");
+    for middle in ["x".repeat(200), "W".repeat(200), "\u{6f22}".repeat(70), "a ".repeat(100)] {
+        let (sheet, script) = (format!("first {middle} last.sheet"), format!("first {middle} last.script"));
+        folder.file(&sheet, &std::fs::read(shipped_one("g")).unwrap());
+        folder.file(&script, &std::fs::read(shipped_script("g-worst")).unwrap());
+        let ran = shell(&folder.0, &format!("\"$0\" draw '{sheet}' '{script}'"));
+        let picture = drawn(&ran, 1);
+        assert!(picture.contains(&format!("<title>&quot;{sheet}&quot;: missed, 2 tasks")));
+        let shown: Vec<&str> = texts(picture);
+        for (start, end) in [("&quot;first ", " last.sheet&quot;: missed"), ("The run of &quot;first ", " last.script&quot;: task 0")] {
+            let at = shown.iter().position(|text| text.starts_with(start)).expect("a name");
+            assert!(shown[at..at + 3].join(" ").contains(end) && shown[at].contains("..."), "{shown:?}");
+        }
+        // 930 pixels have room for so many wide letters of the title, and for more narrow ones
+        assert!(
+            shown.iter().all(|text| text.replace("&quot;", "\"").chars().filter(|&c| c == 'W' || c > '\u{7f}').count() <= 50),
+            "{shown:?}"
+        );
+        assert!(shown.iter().all(|text| text.chars().count() <= 150), "{shown:?}");
+    }
 }
