@@ -70,17 +70,14 @@ pub fn refused_text(
 
 fn refused_words(name: &Name, refusal: ScriptRefusal, fault: &ScriptFault, tasks: usize) -> String {
     let line = format!("{}: {}: {}\n", name.shown(), words::script_refused(refusal), words::short(refusal.number()));
-    let place = refusal.item().map_or(String::new(), |item| item_words(item, tasks) + ": ");
+    let place = refusal.item().map_or(String::new(), |item| entry_words(item, tasks));
     let advice = if fault.advice.is_empty() { String::new() } else { format!("{}\n", fault.advice) };
-    format!("{line}{place}{}\n{advice}", fault.words)
+    format!("{line}{place}{}\n{advice}", fault.words())
 }
 
-/// First frames and entries are counted together.
-fn item_words(item: usize, tasks: usize) -> String {
-    match item.checked_sub(tasks) {
-        None => format!("item {item}, the first frame of task {item}"),
-        Some(entry) => format!("item {item}, which is entry {entry}"),
-    }
+/// Which entry an item is: first frames and entries are counted together. The fault of a first frame says itself which one it is.
+fn entry_words(item: usize, tasks: usize) -> String {
+    item.checked_sub(tasks).map_or(String::new(), |entry| format!("item {item}, which is entry {entry}: "))
 }
 
 /// How the play ends, in a line.

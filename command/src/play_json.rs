@@ -52,7 +52,7 @@ fn tally_object(tally: &Tally) -> String {
 pub fn refused(sheet: &Name, script: &Name, refusal: ScriptRefusal, fault: &ScriptFault) -> String {
     let object = object(sheet, script).text("verdict", "refused").number("refusal", refusal.number());
     let object = object.task("item", refusal.item()).text("words", words::short(refusal.number()));
-    object.text("fault", &fault.words).text("advice", &fault.advice).close() + "\n"
+    object.text("fault", &fault.words()).text("advice", &fault.advice).close() + "\n"
 }
 
 /// With JSON there is an object for what could not be read, too.

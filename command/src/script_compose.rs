@@ -56,5 +56,5 @@ fn read_back(bytes: &[u8], parsed: &script_text::ScriptText) -> Result<(), Troub
 fn refused(refusal: ScriptRefusal, bytes: &[u8], set: &Set) -> Result<String, Trouble> {
     let fault = script_faults::of(refusal, bytes, set)?;
     let advice = if fault.advice.is_empty() { String::new() } else { format!(". {}", fault.advice) };
-    Ok(format!("{}: {}{advice}", words::script_refused(refusal), fault.words))
+    Ok(format!("{}: {}{advice}", words::script_refused(refusal), fault.words()))
 }

@@ -1,18 +1,46 @@
 //! What is wrong with a refused script, in words. The library says that it is refused and at which item; where the command sees no fault
 //! there, or one before it, it says that it disagrees instead of making up a reason.
 use crate::plays::ScriptRefusal;
-use crate::script::{length, Entry, Script};
-use crate::set::{Set, Task, MOST_TASKS};
+use crate::script::{length, Entry, Script, MOST_BYTES};
+use crate::set::{Set, Task, MOST_TASKS, MOST_TICKS};
 use crate::status::Trouble;
 use crate::words::{counted, entries, is_text};
 use std::cmp::Ordering;
 
+/// The part of a script that has a fault.
+#[derive(Clone, Copy, Debug, PartialEq, Eq)]
+pub enum Part {
+    Length,
+    CheckWord,
+    Fill,
+    /// The item that the refusal names.
+    Item,
+}
+
 #[derive(Clone, Debug, PartialEq, Eq)]
 pub struct ScriptFault {
-    /// Field, value and limit.
-    pub words: String,
+    /// Field, value and limit, of each part that is at fault.
+    pub reasons: Vec<(Part, String)>,
     /// What to do about it, where that helps.
     pub advice: String,
+}
+
+impl ScriptFault {
+    /// Every reason.
+    pub fn words(&self) -> String {
+        self.reasons.iter().map(|(_, words)| words.as_str()).collect::<Vec<_>>().join("; ")
+    }
+
+    /// The reason that is about a part.
+    pub fn of_part(&self, part: Part) -> Option<&str> {
+        self.reasons.iter().find(|(at, _)| *at == part).map(|(_, words)| words.as_str())
+    }
+
+    /// The fault of an item, with every reason; none without one.
+    fn of_item(reasons: &[String], advice: &str) -> Option<Self> {
+        let words = (Part::Item, reasons.join("; "));
+        (!reasons.is_empty()).then(|| ScriptFault { reasons: vec![words], advice: advice.to_string() })
+    }
 }
 
 /// The fault of a refused script.
@@ -39,31 +67,46 @@ pub fn none(bytes: &[u8], set: &Set) -> Result<(), Trouble> {
 
 /// 13, with every reason.
 fn whole(bytes: &[u8], tasks: usize) -> Option<ScriptFault> {
-    let for_tasks = format!("a script for {}", counted(tasks as u64, "task"));
-    let Some(script) = Script::of(bytes, tasks) else {
-        let there =
-            if bytes.is_empty() { "the input is empty, 0 bytes".to_string() } else { format!("length {}", bytes_words(bytes.len())) };
-        let words = format!("{there}: {for_tasks} has at least {}", length(tasks, 0));
-        return Some(ScriptFault { words, advice: whole_advice(bytes, tasks) });
+    let reasons = match Script::of(bytes, tasks) {
+        Some(script) => {
+            [check_word_reason(&script, bytes), length_reason(&script, bytes), fill_reason(&script)].into_iter().flatten().collect()
+        }
+        None => vec![(Part::Length, short_reason(bytes, tasks))],
     };
-    let mut reasons = Vec::new();
-    let (stated, computed) = (script.stated_word(), script.computed_word());
-    if stated != computed {
-        reasons.push(format!("the check word is {stated:04X}, the bytes before it give {computed:04X}"));
-    }
-    let count = script.count();
-    if bytes.len() != length(tasks, count) {
-        let (there, needed) = (bytes_words(bytes.len()), length(tasks, count));
-        reasons.push(format!("length {there}: {for_tasks} whose count says {} has {needed}", entries(count)));
-    }
-    if let Some(fill) = script.fill().filter(|fill| fill.contains('1')) {
-        reasons.push(format!("fill bits {fill} after the last entry: they must be 0"));
-    }
-    (!reasons.is_empty()).then(|| ScriptFault { words: reasons.join("; "), advice: whole_advice(bytes, tasks) })
+    (!reasons.is_empty()).then(|| ScriptFault { reasons, advice: whole_advice(bytes, tasks) })
 }
 
-fn bytes_words(count: usize) -> String {
-    counted(count as u64, "byte")
+fn short_reason(bytes: &[u8], tasks: usize) -> String {
+    let there = if bytes.is_empty() { "the input is empty, 0 bytes".to_string() } else { format!("length {}", bytes_words(bytes.len())) };
+    format!("{there}: {} has at least {}", for_tasks(tasks), length(tasks, 0))
+}
+
+/// What is longer than every script was not read to its end, where its check word would stand.
+fn check_word_reason(script: &Script, bytes: &[u8]) -> Option<(Part, String)> {
+    let (stated, computed) = (script.stated_word(), script.computed_word());
+    let words = format!("the check word is {stated:04X}, the bytes before it give {computed:04X}");
+    (stated != computed && bytes.len() <= MOST_BYTES).then_some((Part::CheckWord, words))
+}
+
+fn length_reason(script: &Script, bytes: &[u8]) -> Option<(Part, String)> {
+    let (there, needed) = (bytes_words(bytes.len()), length(script.tasks(), script.count()));
+    let words = format!("length {there}: {} whose count says {} has {needed}", for_tasks(script.tasks()), entries(script.count()));
+    (bytes.len() != needed).then_some((Part::Length, words))
+}
+
+fn fill_reason(script: &Script) -> Option<(Part, String)> {
+    let fill = script.fill().filter(|fill| fill.contains('1'))?;
+    Some((Part::Fill, format!("fill bits {fill} after the last entry: they must be 0")))
+}
+
+fn for_tasks(tasks: usize) -> String {
+    format!("a script for {}", counted(tasks as u64, "task"))
+}
+
+/// `22 bytes`: of what is longer than every script no more was read than shows it.
+pub fn bytes_words(count: usize) -> String {
+    let more = if count > MOST_BYTES { " or more" } else { "" };
+    counted(count as u64, "byte") + more
 }
 
 /// A script does not say for how many tasks it is, so that with another sheet its fields fall elsewhere.
@@ -103,7 +146,7 @@ fn first_frame_fault(number: usize, task: &Task, first: u32) -> Option<ScriptFau
     let frames = task.frames.len();
     let there = counted(frames as u64, "frame");
     let words = format!("first frame {first} of task {number}: it has {there}, {}", allowed_below(frames));
-    (first as usize >= frames).then(|| ScriptFault { words, advice: String::new() })
+    ScriptFault::of_item(&[words], "").filter(|_| first as usize >= frames)
 }
 
 /// `0 to 2 are allowed`.
@@ -161,7 +204,7 @@ impl<'a> Seen<'a> {
         let reasons: Vec<String> = reasons.into_iter().flatten().collect();
         let is_one_over_none = entry.lock == 1 && self.set.tasks.get(entry.task as usize).is_some_and(|task| task.lock == 0);
         let advice = if is_one_over_none { ONE_OVER_NONE } else { "" };
-        (!reasons.is_empty()).then(|| ScriptFault { words: reasons.join("; "), advice: advice.to_string() })
+        ScriptFault::of_item(&reasons, advice)
     }
 
     fn task_reason(&self, entry: &Entry) -> String {
@@ -183,9 +226,13 @@ impl<'a> Seen<'a> {
     fn early_reason(&self, entry: &Entry, task: &Task) -> Option<String> {
         let (last, item) = self.released[entry.task as usize]?;
         let free = last + task.period;
+        let again = match free <= MOST_TICKS {
+            true => format!("it may be released again at {free}"),
+            false => format!("it can be released no more: no tick after {MOST_TICKS} can be written in a script"),
+        };
         let (number, missing) = (entry.task, counted(free.checked_sub(entry.tick).filter(|&missing| missing > 0)?.into(), "tick"));
         let words = format!("tick {} is {missing} too early for task {number}: it was released at {last} (item {item}), ", entry.tick);
-        Some(words + &format!("its period is {}, and it may be released again at {free}", task.period))
+        Some(words + &format!("its period is {}, and {again}", task.period))
     }
 
     fn work_reason(&self, entry: &Entry, task: &Task) -> Option<String> {
@@ -249,7 +296,7 @@ mod tests {
         let (set, bytes) = of_f(|entries| entries[2] = Entry { task: 0, tick: 9, work: 4, lock: 1 });
         let fault = of(ScriptRefusal::Item(4), &bytes, &set).expect("a fault");
         assert_eq!(
-            fault.words,
+            fault.words(),
             "tick 9 is 2 ticks too early for task 0: it was released at 1 (item 3), its period is 10, and it may be released again at 11; work 4 \
              is 2 ticks above the frame of task 0: its job 1 takes frame 0, with 2 ticks; lock 1 is 1 tick above the lock 0 of task 0"
         );

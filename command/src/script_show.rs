@@ -7,13 +7,13 @@ use crate::names::Name;
 use crate::output::Output;
 use crate::play_json;
 use crate::plays::{self, Refused, ScriptRefusal};
-use crate::script::{Entry, Script};
-use crate::script_faults::{self, ScriptFault};
+use crate::script::{Entry, Script, MOST_BYTES};
+use crate::script_faults::{self, bytes_words, Part, ScriptFault};
 use crate::script_text::{self, Widths};
 use crate::set::Set;
 use crate::status::{Status, Trouble};
 use crate::table::MARK;
-use crate::words::{self, counted, entries, UNITS};
+use crate::words::{self, entries, UNITS};
 
 pub fn run(json: bool, sheet: &Name, script: &Name, output: &mut Output) -> Result<Status, Trouble> {
     let mut pipes = Pipes::default();
@@ -80,22 +80,27 @@ fn entry_object(entry: Entry) -> String {
 /// What can be read, with the fault marked. The first line is no comment, so that nobody composes it unawares.
 fn put_refused(refusal: ScriptRefusal, fault: &ScriptFault, bytes: &[u8], set: &Set, output: &mut Output) -> Result<(), Trouble> {
     let tasks = set.tasks.len();
+    let mark = |part: Part| fault.of_part(part).map_or(String::new(), |words| format!("   # {MARK} {words}"));
+    let mark_item = |item: usize| if refusal.item() == Some(item) { mark(Part::Item) } else { String::new() };
     let mut text = format!("{}: {}\n", words::script_refused(refusal), words::short(refusal.number()));
     text += &format!("# What can be read of the refused script; an arrow marks the fault. {UNITS}\n");
-    text += &format!("# length {}", counted(bytes.len() as u64, "byte"));
-    text += &if refusal == ScriptRefusal::Whole { format!("   # {MARK} {}\n", fault.words) } else { "\n".to_string() };
+    text += &format!("# length {}{}\n", bytes_words(bytes.len()), mark(Part::Length));
     let Some(script) = Script::of(bytes, tasks) else { return output.put(text.as_bytes()) };
     if refusal == ScriptRefusal::Whole {
         text += "# The fields below are shown as they stand, and any of them may be spoiled.\n";
     }
-    text += &format!("# check word {:04X}\n# count: {}\n", script.stated_word(), entries(script.count()));
-    let mark = |item: usize| if refusal.item() == Some(item) { format!("   # {MARK} {}", fault.words) } else { String::new() };
-    let frames_mark = (0..tasks).map(&mark).collect::<String>();
+    // what is longer than every script was not read to its end
+    let word = if bytes.len() > MOST_BYTES { "not read".to_string() } else { format!("{:04X}", script.stated_word()) };
+    text += &format!("# check word {word}{}\n# count: {}\n", mark(Part::CheckWord), entries(script.count()));
+    let frames_mark = (0..tasks).map(&mark_item).collect::<String>();
     let widths = Widths::of(script.entries());
     text += &format!("{}{frames_mark}\n{}\n", script_text::frames_line(&script.first_frames()), widths.columns());
     output.put(text.as_bytes())?;
     for (number, entry) in script.entries().enumerate() {
-        output.put(format!("{}{}\n", widths.row(entry), mark(tasks + number)).as_bytes())?;
+        output.put(format!("{}{}\n", widths.row(entry), mark_item(tasks + number)).as_bytes())?;
     }
-    Ok(())
+    match (script.fill(), fault.of_part(Part::Fill)) {
+        (Some(fill), Some(_)) => output.put(format!("# fill bits {fill}{}\n", mark(Part::Fill)).as_bytes()),
+        _ => Ok(()),
+    }
 }

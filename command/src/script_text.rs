@@ -1,7 +1,7 @@
 //! The text form of a run script: `script show` writes it, `script compose` reads it.
 use crate::script::{Entry, Script, MOST_ENTRIES, MOST_IN_A_DIGIT};
 use crate::set::MOST_TICKS;
-use crate::table::{lines_with_words, number, unmarked, BadLine};
+use crate::table::{digits, lines_with_words, quoted, unmarked, BadLine};
 use crate::words::{counted, UNITS};
 
 /// The word before the first frames.
@@ -101,7 +101,7 @@ fn lines_of(text: &[u8], tasks: usize) -> Result<ScriptText, BadLine> {
 fn first_frames(words: &[&[u8]], tasks: usize) -> Result<Vec<u32>, String> {
     let for_each = format!("`{FIRST_FRAMES}` and a number for each task of the sheet, which has {}", counted(tasks as u64, "task"));
     match words {
-        [b"refused", ..] => Err("this is what `show` says of a refused script: mend it, then delete this line".to_string()),
+        [b"refused", ..] => Err("this is what `script show` says of a refused script: mend it, then delete this line".to_string()),
         [first, frames @ ..] if *first == FIRST_FRAMES.as_bytes() => {
             if frames.len() != tasks {
                 return Err(format!("{} here: {for_each}, must stand here", counted(frames.len() as u64, "number")));
@@ -128,10 +128,10 @@ fn row(words: &[&[u8]]) -> Result<Entry, String> {
 
 /// A number that fits its field; what else is asked of it the library says.
 fn field(name: &str, word: &[u8], most: u32) -> Result<u32, String> {
-    let value = number(name, word)?;
-    match value <= most {
-        true => Ok(value),
-        false => Err(format!("{name} {value} has no room in a script: {most} is the largest")),
+    match digits(name, word)? {
+        Some(value) if value <= most => Ok(value),
+        Some(value) => Err(format!("{name} {value} has no room in a script: {most} is the largest")),
+        None => Err(format!("{name} {} has no room in a script: {most} is the largest", quoted(word))),
     }
 }
 

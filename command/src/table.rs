@@ -143,20 +143,24 @@ fn row(expected: usize, words: &[&[u8]]) -> Result<Task, String> {
     Ok(Task { period, deadline, lock, frames: frames.collect::<Result<Vec<u32>, String>>()? })
 }
 
-/// Decimal digits that fit 32 bits; whether the number is in range the library says.
-pub fn number(field: &str, word: &[u8]) -> Result<u32, String> {
+/// A number that fits 32 bits; whether it is in range the library says.
+fn number(field: &str, word: &[u8]) -> Result<u32, String> {
+    digits(field, word)?.ok_or_else(|| format!("{field} {} is far too large: no number of a set is above {MOST_TICKS}", quoted(word)))
+}
+
+/// Decimal digits as a number, none if it does not fit 32 bits.
+pub fn digits(field: &str, word: &[u8]) -> Result<Option<u32>, String> {
     if !word.iter().all(u8::is_ascii_digit) {
         return Err(format!("{field} {} is no number: only decimal digits are allowed", quoted(word)));
     }
     if word.len() > 1 && word[0] == b'0' {
         return Err(format!("{field} {} starts with 0: write the number without it", quoted(word)));
     }
-    let digits = std::str::from_utf8(word).ok().and_then(|digits| digits.parse().ok());
-    digits.ok_or_else(|| format!("{field} {} is far too large: no number of a set is above {MOST_TICKS}", quoted(word)))
+    Ok(std::str::from_utf8(word).ok().and_then(|digits| digits.parse().ok()))
 }
 
 /// The word in quotes, cut if it is long.
-fn quoted(word: &[u8]) -> String {
+pub fn quoted(word: &[u8]) -> String {
     const MOST: usize = 40;
     match word.get(..MOST) {
         Some(start) if word.len() > MOST => format!("`{}...`", escaped(start)),

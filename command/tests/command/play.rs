@@ -252,6 +252,33 @@ fn refused_items() {
     assert!(met.len() == 7 && met.values().all(|&count| count >= 20), "{met:?}");
 }
 
+/// A first frame says itself which one it is, an entry is told by its number too.
+#[test]
+fn refused_items_word_for_word() {
+    let folder = Folder::new("refused-words");
+    let first = "a first frame or an entry of the script out of range, out of order or against a run rule";
+    for (item, first_frame, lock, words) in [
+        (0, 1, 0, "first frame 1 of task 0: it has 1 frame, 0 is allowed"),
+        (2, 0, 4, "item 2, which is entry 0: lock 4 is 1 tick above the lock 3 of task 1"),
+    ] {
+        let entries = vec![scripts::Entry { task: 1, tick: 0, work: 4, lock }];
+        folder.file("r", &scripts::write(&Script { first_frames: vec![first_frame, 0], entries }));
+        let ran = shell(&folder.0, &format!("\"$0\" play '{}' r", shipped_one("f")));
+        assert_eq!(ran.done(2), format!("r: refused 14 (item {item}): {first}\n{words}\n"));
+    }
+}
+
+/// Of what is longer than every script no more is read than shows it.
+#[test]
+fn a_script_without_end() {
+    let words = "length 134217734 bytes or more: a script for 2 tasks whose count says 0 entries has 6";
+    let ran = run(&["play", &shipped_one("g"), "/dev/zero"]);
+    assert!(ran.done(2).contains(words), "{}", ran.text());
+    let ran = run(&["script", "show", &shipped_one("g"), "/dev/zero"]);
+    assert!(ran.done(2).contains(&format!("# length 134217734 bytes or more   # <== {words}\n")), "{}", ran.text());
+    assert!(ran.text().contains("# check word not read\n"), "{}", ran.text());
+}
+
 /// 13: each way, beside every sheet that it can be about; a script with a wrong check word is never played.
 #[test]
 fn refused_as_a_whole() {

@@ -4,7 +4,7 @@ use crate::running::{run, run_with, shell, shipped_one, shipped_script, Folder, 
 use crate::runs::{broken, busy_set, kept, text};
 use second::random::Random;
 use second::scripts::{self, Script};
-use second::sheet;
+use second::{check_word, sheet};
 use std::path::Path;
 
 /// Each shipped script with the sheet that it is for.
@@ -67,7 +67,7 @@ fn a_refused_script_is_shown_and_not_composed() {
     let sheet = shipped_one("f");
     assert_eq!(run(&["script", "show", &sheet, &shipped_script("g-worst")]).done(2), REFUSED);
     let compose = |text: &str| run_with(&["script", "compose", &sheet, "-"], text.as_bytes());
-    assert!(compose(REFUSED).failed(3).starts_with("-:1: this is what `show` says of a refused script"));
+    assert!(compose(REFUSED).failed(3).starts_with("-:1: this is what `script show` says of a refused script"));
     let (_, rest) = REFUSED.split_once('\n').unwrap();
     assert!(compose(rest).failed(3).starts_with("-:7: this line has the mark "));
     let unmended = rest.replace("   # <== lock 4 is 1 tick above the lock 3 of task 1", "");
@@ -77,6 +77,32 @@ fn a_refused_script_is_shown_and_not_composed() {
     assert!(whole.done(2).starts_with("refused 13: ") && whole.text().contains("<== length 22 bytes: a script for 1 task"));
     assert!(run(&["script", "show", &sheet, "/dev/null"]).done(2).contains("# length 0 bytes   # <== the input is empty"));
     assert!(run(&["script", "show", &shipped_one("i"), "/dev/null"]).done(2).contains("i.sheet: refused 11 (task 0)"));
+}
+
+/// Each way to be refused by 13 is marked where it is: the length, the check word, or the fill behind the last entry.
+#[test]
+fn what_is_wrong_with_the_whole_is_marked() {
+    let folder = Folder::new("scripts-whole");
+    let shown = |sheet: &str, bytes: &[u8]| {
+        folder.file("r", bytes);
+        let ran = shell(&folder.0, &format!("\"$0\" script show '{}' r", shipped_one(sheet)));
+        let marked: Vec<String> = ran.done(2).lines().filter(|line| line.contains("<==")).map(str::to_string).collect();
+        assert!(ran.text().starts_with("refused 13: "), "{}", ran.text());
+        marked
+    };
+    let good = std::fs::read(shipped_script("g-worst")).unwrap();
+    let changed = [&good[..9], &[good[9] ^ 0x10], &good[10..]].concat();
+    let sealed = check_word::sealed(&changed[..20]);
+    let word = format!("the check word is EF2A, the bytes before it give {:02X}{:02X}", sealed[20], sealed[21]);
+    assert_eq!(shown("g", &changed), [format!("# check word EF2A   # <== {word}")]);
+    let length = "# length 23 bytes   # <== length 23 bytes: a script for 2 tasks whose count says 2 entries has 22";
+    assert_eq!(shown("g", &check_word::sealed(&[&good[..20], &[0]].concat())), [length]);
+    let one = scripts::write(&Script { first_frames: vec![0], entries: Vec::new() });
+    let filled = [&one[..3], &[one[3] | 1]].concat();
+    let fill = "# fill bits 0001   # <== fill bits 0001 after the last entry: they must be 0";
+    assert_eq!(shown("m", &check_word::sealed(&filled)), [fill]);
+    let both = shown("g", &good[..20]);
+    assert!(both.len() == 2 && both[0].starts_with("# length 20 bytes   # <== ") && both[1].starts_with("# check word "), "{both:?}");
 }
 
 #[test]
@@ -151,6 +177,13 @@ fn rules_word_for_word() {
         "-:4: refused 14 (item 3): tick 8 is 3 ticks too early for task 0: it was released at 1 (item 2), its period is 10, and it may be \
          released again at 11\n"
     );
+    // the tick at which it may be released again is none that a script can say
+    assert_eq!(
+        of_f("0 0", "0 1048570 2 0\n0 1048575 2 0\n"),
+        "-:4: refused 14 (item 3): tick 1048575 is 5 ticks too early for task 0: it was released at 1048570 (item 2), its period is 10, and \
+         it can be released no more: no tick after 1048575 can be written in a script\n"
+    );
+    assert!(of_f("0 0", "0 1048565 2 0\n0 1048570 2 0\n").ends_with("and it may be released again at 1048575\n"));
     assert_eq!(
         of_f("0 0", "0 1 2 0\n0 11 3 0\n"),
         "-:4: refused 14 (item 3): work 3 is 1 tick above the frame of task 0: its job 1 takes frame 0, with 2 ticks\n"
@@ -189,12 +222,14 @@ fn bad_lines_name_file_line_and_field() {
         ),
         ("first-frames 0\n".to_string(), 1, "1 number here: `first-frames` and a number for each task"),
         ("first-frames 0 16\n".to_string(), 1, "first frame of task 1 16 has no room in a script: 15 is the largest"),
+        ("first-frames 0 99999999999\n".to_string(), 1, "first frame of task 1 `99999999999` has no room in a script: 15 is the largest"),
         ("first-frames 0 0\n".to_string(), 2, "there is no line `task tick work lock`"),
         ("first-frames 0 0\n0 1 2 0\n".to_string(), 2, "the column names `task tick work lock` must stand here"),
         (format!("{start}0 1 2\n"), 3, "3 words here: an entry has four, task, tick, work, lock"),
         (format!("{start}0 1 2 0 0\n"), 3, "5 words here"),
         (format!("{start}16 1 2 0\n"), 3, "task 16 has no room in a script: 15 is the largest"),
         (format!("{start}0 1048576 2 0\n"), 3, "tick 1048576 has no room in a script: 1048575 is the largest"),
+        (format!("{start}0 4294967296 2 0\n"), 3, "tick `4294967296` has no room in a script: 1048575 is the largest"),
         (format!("{start}0 1 1048576 0\n"), 3, "work 1048576 has no room"),
         (format!("{start}0 1 2 1048576\n"), 3, "lock 1048576 has no room"),
         (format!("{start}0 -1 2 0\n"), 3, "tick `-1` is no number"),
