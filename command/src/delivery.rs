@@ -1,8 +1,9 @@
-//! What a verb makes goes to a file, whole or not at all, or to standard output, which must be no terminal.
+//! What a verb makes goes to a file, whole or not at all, or to standard output; never to a terminal, by whatever name.
+use crate::input;
 use crate::names::Name;
 use crate::output::{tell, Output};
 use crate::status::Trouble;
-use crate::{input, whole_file};
+use crate::whole_file::{self, Put};
 use std::fs::{self, Metadata};
 use std::io;
 use std::os::unix::fs::MetadataExt;
@@ -31,7 +32,10 @@ impl Made<'_> {
         if is_same_file(output.metadata(), path) {
             return output.put(bytes);
         }
-        whole_file::write(path, bytes).map_err(|error| Trouble::of_file(&name, &error))
+        match whole_file::write(path, bytes).map_err(|error| Trouble::of_file(&name, &error))? {
+            Put::Written => Ok(()),
+            Put::Terminal => Err(Trouble::File(name, format!("this is a terminal, and {}", self.not_for_a_terminal))),
+        }
     }
 }
 

@@ -1,16 +1,25 @@
 //! Writing a whole file or none.
 use std::fs::{self, File, OpenOptions, Permissions};
-use std::io::{self, ErrorKind, Write};
+use std::io::{self, ErrorKind, IsTerminal, Write};
 use std::path::{Path, PathBuf};
 
+/// What became of the bytes.
+#[derive(Clone, Copy, Debug, PartialEq, Eq)]
+pub enum Put {
+    Written,
+    /// Nothing was written: a terminal gets no bytes.
+    Terminal,
+}
+
 /// Puts the bytes into a file of this name. What is there and no regular file, such as a device, is written to directly.
-pub fn write(path: &Path, bytes: &[u8]) -> io::Result<()> {
+pub fn write(path: &Path, bytes: &[u8]) -> io::Result<Put> {
     match OpenOptions::new().write(true).open(path) {
+        Ok(there) if there.is_terminal() => Ok(Put::Terminal),
         Ok(mut there) => {
             let known = there.metadata()?;
             match known.is_file() {
                 true => replace(&fs::canonicalize(path)?, bytes, Some(known.permissions())),
-                false => there.write_all(bytes),
+                false => there.write_all(bytes).map(|()| Put::Written),
             }
         }
         Err(_) if path.is_symlink() && !path.exists() => Err(io::Error::new(ErrorKind::NotFound, "a link that leads nowhere")),
@@ -20,13 +29,13 @@ pub fn write(path: &Path, bytes: &[u8]) -> io::Result<()> {
 }
 
 /// Writes beside the file and renames, so that the name stands for the old file or the whole new one at every moment.
-fn replace(path: &Path, bytes: &[u8], permissions: Option<Permissions>) -> io::Result<()> {
+fn replace(path: &Path, bytes: &[u8], permissions: Option<Permissions>) -> io::Result<Put> {
     let (beside, file) = create_beside(path)?;
     let done = fill(file, bytes, permissions).and_then(|()| fs::rename(&beside, path));
     if done.is_err() {
         let _ = fs::remove_file(&beside);
     }
-    done
+    done.map(|()| Put::Written)
 }
 
 /// A new file in the same folder, under a name that nothing has, and short: the file's own may be as long as names can be.

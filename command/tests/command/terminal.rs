@@ -18,13 +18,20 @@ const OPEN: c_int = 0o402;
 
 /// A new terminal: the end that stands for the screen, which must stay open, and the end that a program writes to.
 fn terminal() -> (OwnedFd, File) {
+    let (screen, end, _) = terminal_named();
+    (screen, end)
+}
+
+/// The same, with its name.
+fn terminal_named() -> (OwnedFd, File, String) {
     // SAFETY: the calls get the descriptor that the first one made, and the name is copied before another call
     let (screen, name) = unsafe {
         let screen = posix_openpt(OPEN);
         assert!(screen >= 0 && grantpt(screen) == 0 && unlockpt(screen) == 0, "no terminal");
         (OwnedFd::from_raw_fd(screen), CStr::from_ptr(ptsname(screen)).to_str().expect("a name").to_string())
     };
-    (screen, OpenOptions::new().read(true).write(true).open(name).expect("a terminal"))
+    let end = OpenOptions::new().read(true).write(true).open(&name).expect("a terminal");
+    (screen, end, name)
 }
 
 fn run_on_terminal(words: &[&str]) -> (Option<i32>, String) {
@@ -58,6 +65,33 @@ fn a_script_and_a_picture_do_not() {
         let (status, said) = run_on_terminal(words);
         assert_eq!(status, Some(3));
         assert!(said.contains(message), "{said}");
+    }
+}
+
+/// By another name a terminal gets none either: not as standard output, nor as itself.
+#[test]
+fn a_terminal_by_another_name() {
+    let folder = Folder::new("terminal-names");
+    let table = folder.file("t", b"policy 0\ntask period deadline lock frames\n0 10 4 0 2\n").display().to_string();
+    let (sheet, text) = (shipped_one("g"), format!("{ROOT}/scripts/g-worst.text"));
+    for (words, message) in [
+        (["compose", &table].as_slice(), "a sheet is no text"),
+        (&["worst", &sheet], "a script is no text"),
+        (&["script", "compose", &sheet, &text], "a script is no text"),
+        (&["draw", &sheet], "a picture is nothing to read"),
+    ] {
+        for name in ["/dev/stdout", "/dev/fd/1", "/proc/self/fd/1"] {
+            let (status, said) = run_on_terminal(&[words, &["-o", name]].concat());
+            assert_eq!((status, said), (Some(3), format!("burrbeech: {name}: this is a terminal, and {message}\n")));
+        }
+        let (screen, _end, name) = terminal_named();
+        let output = Command::new(COMMAND).args(words).args(["-o", &name]).stdin(Stdio::null()).output().expect("the command runs");
+        drop(screen);
+        let said = String::from_utf8(output.stderr).expect("messages are UTF-8");
+        assert_eq!(
+            (output.status.code(), output.stdout.len(), said),
+            (Some(3), 0, format!("burrbeech: {name}: this is a terminal, and {message}\n"))
+        );
     }
 }
 
