@@ -8,7 +8,7 @@ use crate::names::Name;
 use crate::output::Output;
 use crate::status::{Status, Trouble};
 use crate::words::{self, counted, joined, UNITS};
-use crate::{explain_json, input};
+use crate::{explain_json, input, library};
 
 pub fn run(json: bool, name: &Name, output: &mut Output) -> Result<Status, Trouble> {
     let bytes = match input::sheet(name) {
@@ -29,7 +29,30 @@ pub fn run(json: bool, name: &Name, output: &mut Output) -> Result<Status, Troub
 /// What is said of a refused sheet, in words or as an object.
 pub fn refused_sheet(json: bool, name: &Name, refusal: Refusal, sheet: &[u8]) -> Result<String, Trouble> {
     let fault = faults::of_sheet(refusal, sheet)?;
-    Ok(if json { explain_json::refused(name, refusal, &fault) } else { refused(name, refusal, &fault) })
+    Ok(refused_text(json, name, refusal, &fault))
+}
+
+/// The same of a sheet that is given before a script, which may be the sheet that was meant.
+pub fn refused_before(json: bool, name: &Name, refusal: Refusal, sheet: &[u8], script: (&Name, &[u8])) -> Result<String, Trouble> {
+    let mut fault = faults::of_sheet(refusal, sheet)?;
+    if let Some(hint) = swapped(script, "script")? {
+        fault.advice = format!("{} {hint}", fault.advice).trim_start().to_string().into();
+    }
+    Ok(refused_text(json, name, refusal, &fault))
+}
+
+/// A hint where what is given behind a refused sheet reads as a sheet.
+pub fn swapped((name, bytes): (&Name, &[u8]), what: &str) -> Result<Option<String>, Trouble> {
+    let reads = library::read(bytes)?.is_ok();
+    Ok(reads.then(|| format!("{} reads as a sheet: the sheet is given first, then the {what}.", name.shown())))
+}
+
+fn refused_text(json: bool, name: &Name, refusal: Refusal, fault: &Fault) -> String {
+    if json {
+        explain_json::refused(name, refusal, fault)
+    } else {
+        refused(name, refusal, fault)
+    }
 }
 
 fn refused(name: &Name, refusal: Refusal, fault: &Fault) -> String {

@@ -60,7 +60,7 @@ pub fn refused_text(
     bytes: &[u8],
 ) -> Result<String, Trouble> {
     let refusal = match refused {
-        Refused::Sheet(refusal) => return explain::refused_sheet(json, sheet, refusal, sheet_bytes),
+        Refused::Sheet(refusal) => return explain::refused_before(json, sheet, refusal, sheet_bytes, (script, bytes)),
         Refused::Script(refusal) => refusal,
     };
     let set = library::read(sheet_bytes)?.map_err(|_| Trouble::disagreement("reading and playing"))?;

@@ -9,7 +9,7 @@ use crate::plays::{self, Refused, ScriptRefusal};
 use crate::script::{self, Script};
 use crate::set::Set;
 use crate::status::{Status, Trouble};
-use crate::{script_faults, script_text, words};
+use crate::{explain, script_faults, script_text, words};
 
 /// The text of the longest script has fewer bytes.
 const MOST_TEXT: usize = 1 << 30;
@@ -20,7 +20,7 @@ pub fn run(sheet: &Name, text: &Name, to: Option<&Name>, output: &mut Output) ->
     let set = match library::read(&sheet_bytes)? {
         Ok(set) => set,
         Err(refusal) => {
-            tell(&format!("{}\n", refusal_line(sheet, refusal)));
+            tell(&format!("{}\n{}", refusal_line(sheet, refusal), swapped_line(text)?));
             return Ok(Status::Refused);
         }
     };
@@ -44,6 +44,18 @@ pub fn run(sheet: &Name, text: &Name, to: Option<&Name>, output: &mut Output) ->
         // the sheet was read, and what the command packs has its length, fill and check word
         Err(_) => Err(Trouble::Disagreement("a script that was just made is refused as a whole, or its sheet".to_string())),
     }
+}
+
+/// The hint that sheet and text may be swapped. Only a regular file is looked at: another could keep the user waiting.
+fn swapped_line(text: &Name) -> Result<String, Trouble> {
+    if !input::metadata(text).is_ok_and(|known| known.is_file()) {
+        return Ok(String::new());
+    }
+    let hint = match input::sheet(text) {
+        Ok(bytes) => explain::swapped((text, &bytes), "text")?,
+        Err(_) => None,
+    };
+    Ok(hint.map_or(String::new(), |hint| hint + "\n"))
 }
 
 /// The fields of the bytes must be the text's own.

@@ -25,7 +25,7 @@ pub fn run(json: bool, sheet: &Name, script: &Name, output: &mut Output) -> Resu
     let set = match library::read(&sheet_bytes)? {
         Ok(set) => set,
         Err(refusal) => {
-            output.put(explain::refused_sheet(json, sheet, refusal, &sheet_bytes)?.as_bytes())?;
+            output.put(explain::refused_before(json, sheet, refusal, &sheet_bytes, (script, &bytes))?.as_bytes())?;
             return Ok(Status::Refused);
         }
     };

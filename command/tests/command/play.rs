@@ -320,6 +320,29 @@ fn refused_as_a_whole() {
     assert!(play(b"first-frames 0 0\n").done(2).contains("This is text, not a script"));
 }
 
+/// Sheet and script in the wrong order: what was meant for the script reads as a sheet, and that is said.
+#[test]
+fn swapped_files_are_told() {
+    let root = Path::new(ROOT);
+    let hint = "sheets/g.sheet reads as a sheet: the sheet is given first, then the script.";
+    let swapped = "scripts/g-worst.script sheets/g.sheet";
+    let text = "scripts/g-worst.script: refused 3: version not 1\n";
+    for line in [format!("play {swapped}"), format!("script show {swapped}"), format!("draw {swapped} -o /dev/null")] {
+        let ran = shell(root, &format!("\"$0\" {line}"));
+        assert!(ran.done(2).starts_with(text) && ran.text().ends_with(&format!(" {hint}\n")), "{}", ran.text());
+    }
+    for verb in ["play", "script show"] {
+        let object = shell(root, &format!("\"$0\" {verb} --json {swapped}"));
+        assert!(json::object(object.done(2).trim_end()).get("advice").text().ends_with(hint));
+    }
+    let ran = shell(root, "\"$0\" script compose scripts/g-worst.text sheets/g.sheet");
+    assert!(ran.failed(2).ends_with("\nsheets/g.sheet reads as a sheet: the sheet is given first, then the text.\n"), "{}", ran.err);
+    // nothing is read that could keep the user waiting, and no hint is made up
+    let ran = shell(root, "sleep 5 | timeout 4 \"$0\" script compose sheets/i.sheet -");
+    assert_eq!(ran.failed(2), "sheets/i.sheet: refused 11 (task 0): not accumulatively monotonic\n");
+    assert!(!shell(root, "\"$0\" play scripts/g-worst.script sheets/i.sheet").done(2).contains("reads as a sheet"));
+}
+
 /// The sheet's own refusal comes first, whatever the script is.
 #[test]
 fn a_refused_sheet_comes_first() {
