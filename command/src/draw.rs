@@ -43,7 +43,7 @@ pub fn run(options: &DrawOptions, output: &mut Output) -> Result<Status, Trouble
                 (worst.course, name)
             }
             Ok(None) => {
-                say(&worst::holds(false, sheet, &sheet_bytes)?, to.as_ref(), output)?;
+                say(&worst::holds(false, sheet, to.as_ref(), &sheet_bytes)?, to.as_ref(), output)?;
                 return Ok(Status::Done);
             }
             Err(refusal) => {

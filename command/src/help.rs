@@ -255,17 +255,19 @@ On a terminal the last 60 ticks follow as lanes, a character for each tick: x ru
   of a refused sheet the object of `explain --json`
 
 A moment is the end of the tick before it: moment 5 is the end of tick 4. An item is a first frame or an entry of the script, counted
-together from 0.
+together from 0. Where SHEET is refused and SCRIPT reads as a sheet, that is said: they may be swapped.
 
 Exit status: 0 all jobs are done, 1 a job misses, 2 the sheet or the script is refused, 3 not read, or usage.
 ";
 
 const WORST: &str = "Of a set that misses, writes the worst run of the missed task's first frame without a response time as a script, to standard output or to
-FILE with -o: the whole file or none. Its play ends with that miss. Of a set that holds it says so and writes nothing.
+FILE with -o: the whole file or none. Its play ends with that miss. Of a set that holds it says so and writes nothing; a FILE that is there
+from before stays as it was, which is said.
 What is said stands on standard output, or on standard error where the script goes there.
 
   --json  prints one object, that of `check --json`, and of a missed set also \"frame\":FRAME, \"released\":1, \"tick\":MOMENT (of the miss),
-          \"entries\":COUNT, \"bytes\":COUNT, \"script\":FILE; of a refused sheet that of `explain --json`; it needs -o FILE
+          \"entries\":COUNT, \"bytes\":COUNT, \"script\":FILE; of a set that holds \"script\":null; of a refused sheet that of
+          `explain --json`; it needs -o FILE
 
 Exit status, that of the set: 0 holds (nothing is written), 1 missed (the script is written), 2 refused, 3 not read or not written, or usage.
 ";

@@ -4,12 +4,13 @@ use crate::course::{self, Course};
 use crate::delivery::{say, Made};
 use crate::findings::{self, Findings};
 use crate::library::{Refusal, Verdict};
-use crate::names::Name;
+use crate::names::{quoted_if_odd, Name};
 use crate::output::Output;
 use crate::script::Script;
 use crate::status::{Status, Trouble};
 use crate::words::{self, counted, entries};
 use crate::{explain, input, library, plays};
+use std::fs;
 
 pub fn run(json: bool, sheet: &Name, to: Option<&Name>, output: &mut Output) -> Result<Status, Trouble> {
     let bytes = match input::sheet(sheet) {
@@ -22,7 +23,7 @@ pub fn run(json: bool, sheet: &Name, to: Option<&Name>, output: &mut Output) -> 
             return Ok(Status::Refused);
         }
         Ok(None) => {
-            say(&holds(json, sheet, &bytes)?, to, output)?;
+            say(&holds(json, sheet, to, &bytes)?, to, output)?;
             return Ok(Status::Done);
         }
         Ok(Some(worst)) => worst,
@@ -74,12 +75,22 @@ fn ends_so(course: &Course, findings: &Findings, task: usize, frame: usize) -> b
     job.is_some() && course.play.tick == 1 + findings.set.tasks[task].deadline
 }
 
-/// That a set holds, with its line of `check`.
-pub fn holds(json: bool, sheet: &Name, bytes: &[u8]) -> Result<String, Trouble> {
+/// That a set holds, with its line of `check`. A file that is there from before is not to be taken for a worst run of this set.
+pub fn holds(json: bool, sheet: &Name, to: Option<&Name>, bytes: &[u8]) -> Result<String, Trouble> {
     let answer = library::analyse(bytes)?;
+    let kept = match to {
+        Some(Name::File(path)) if fs::metadata(path).is_ok_and(|known| known.is_file()) => {
+            format!("; {} is as it was", quoted_if_odd(path))
+        }
+        _ => String::new(),
+    };
+    let words = format!("No job misses, in any run: there is no worst run to show, and nothing is written{kept}.");
     match &answer {
-        Ok(analysis) if json => Ok(verdict_object(sheet, analysis.verdict, analysis.task_count).close() + "\n"),
-        _ => Ok(format!("{}\nNo job misses, in any run: there is no worst run to show, and nothing is written.\n", line(sheet, &answer))),
+        Ok(analysis) if json => {
+            let object = verdict_object(sheet, analysis.verdict, analysis.task_count);
+            Ok(object.raw("script", "null").close() + "\n")
+        }
+        _ => Ok(format!("{}\n{words}\n", line(sheet, &answer))),
     }
 }
 

@@ -50,6 +50,25 @@ fn nothing_is_written_of_a_set_that_holds_or_is_refused() {
     }
 }
 
+/// A file from before is not to be taken for a worst run of a set that holds.
+#[test]
+fn an_old_file_is_told_to_be_as_it_was() {
+    let folder = Folder::new("worst-old");
+    folder.file("an old one", b"old");
+    let sheet = shipped_one("f");
+    for verb in ["worst", "draw"] {
+        let ran = shell(&folder.0, &format!("\"$0\" {verb} '{sheet}' -o 'an old one'"));
+        assert!(ran.done(0).ends_with(
+            "\nNo job misses, in any run: there is no worst run to show, and nothing is written; \"an old one\" is as it was.\n"
+        ));
+        let ran = shell(&folder.0, &format!("\"$0\" {verb} '{sheet}' -o new"));
+        assert!(ran.done(0).ends_with("and nothing is written.\n"));
+    }
+    let object = shell(&folder.0, &format!("\"$0\" worst --json '{sheet}' -o 'an old one'"));
+    assert_eq!(json::object(object.done(0).trim_end()).get("script"), &json::Value::Null);
+    assert_eq!((std::fs::read(folder.0.join("an old one")).unwrap(), folder.names()), (b"old".to_vec(), vec!["an old one".to_string()]));
+}
+
 #[test]
 fn a_failure_leaves_everything_as_it_was() {
     let folder = Folder::new("worst-failures");
