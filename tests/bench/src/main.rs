@@ -122,14 +122,14 @@ fn two_million_ticks() -> (Set, Script) {
     (Set { policy: 0, tasks }, Script { first_frames: vec![0; MOST_TASKS], entries })
 }
 
-/// Sixteen tasks that are released at every tick, a hundred thousand entries in all; two of the first tick miss at once, so that the call judges the script and plays one tick.
+/// Sixteen tasks that are released at every tick, a hundred thousand entries in all; of the sixteen of the first tick fifteen miss at once, so that the call judges the script and plays one tick.
 fn hundred_thousand_entries() -> (Set, Script) {
     let tasks = vec![Task { period: 1, deadline: 1, lock: 0, frames: vec![1] }; MOST_TASKS];
     let entries = (0..100_000u32).map(|j| Release { task: j % 16, tick: j / 16, work: 1, lock: 0 }).collect();
     (Set { policy: 0, tasks }, Script { first_frames: vec![0; MOST_TASKS], entries })
 }
 
-/// A long deadline that is missed below tasks of short periods: half a million entries and more.
+/// A long deadline that is missed below tasks of short periods: some 830,000 entries.
 fn long_worst_run() -> Set {
     let plain = |period: u32, time: u32| Task { period, deadline: period, lock: 0, frames: vec![time] };
     Set { policy: 0, tasks: vec![plain(2, 1), plain(5, 1), plain(11, 2), plain(MOST_TICKS, 200_000)] }
