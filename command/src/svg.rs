@@ -3,7 +3,7 @@
 pub const RUNS: &str = "#7fb2e5";
 /// The first tick of a locked stretch, and the others.
 pub const STARTS: &str = "#5c1a00";
-pub const LOCKED: &str = "#d2691e";
+pub const LOCKED: &str = "#c4520f";
 pub const WAITS: &str = "#e8e8e8";
 pub const IDLE: &str = "#9aa58c";
 pub const INK: &str = "#222";

@@ -24,7 +24,7 @@ fn is_plain_svg(picture: &str) {
 
 /// The colours of a stretch's first tick and of its others, of running and of waiting, and of misses and strokes.
 const STARTS: &str = "#5c1a00";
-const LOCKED: &str = "#d2691e";
+const LOCKED: &str = "#c4520f";
 const RUNS: &str = "#7fb2e5";
 const WAITS: &str = "#e8e8e8";
 const MISS: &str = "#d4002a";

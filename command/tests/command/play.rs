@@ -1,7 +1,7 @@
 //! `play`: every end of a run, in words, as lanes and as an object.
 use crate::json::{self, number_or_null, Value};
 use crate::running::{run, run_with, shell, shipped_one, shipped_script, Folder, ROOT};
-use crate::runs::{broken, busy_set, kept, seen, two_misses};
+use crate::runs::{broken, busy_set, kept, seen, two_misses, Seen};
 use second::random::Random;
 use second::runs::{Complete, Job};
 use second::scripts::{self, Script};
@@ -144,6 +144,22 @@ fn also(set: &Set, script: &Script, job: &Job) -> Value {
     Value::Object(fields.map(|(name, number)| (name.to_string(), Value::Number(number))).into())
 }
 
+/// The lane of a task, of the last 70 ticks at most, shows what each of them had, and whether it misses.
+fn lane_shows(text: &str, set: &Set, seen: &Seen, task: usize) {
+    let (end, from) = (seen.ticks.len(), seen.ticks.len().saturating_sub(70));
+    let is_lane = |line: &&str| line.strip_prefix("task ").is_some_and(|rest| rest.split(' ').next() == Some(&task.to_string()));
+    let lane = text.lines().rev().find(is_lane).expect("a lane").as_bytes();
+    let width = if set.tasks.len() > 10 { 9 } else { 8 };
+    let sign = |tick: usize| lane.get(width + tick - from).copied().unwrap_or(b' ');
+    for (tick, &(running, runs)) in seen.ticks.iter().enumerate().skip(from) {
+        match running == Some(task) {
+            true => assert_eq!(sign(tick), runs, "{text}"),
+            false => assert!(matches!(sign(tick), b' ' | b'.'), "{text}"),
+        }
+    }
+    assert_eq!(sign(end) == b'!', seen.missed.iter().any(|job| job.task == task), "{text}");
+}
+
 /// Compared with the second reading: how each run ends, when, whose miss it is, and what became of the jobs.
 #[test]
 fn random_runs() {
@@ -170,23 +186,8 @@ fn random_runs() {
             let also: Vec<Value> = others.iter().map(|job| also(&set, &script, job)).collect();
             assert_eq!(object.get("also"), &Value::Array(also));
         }
-        // the lanes show what each tick had, and every miss
         let ran = shell(&folder.0, "\"$0\" play s r --last 70");
-        let from = seen.ticks.len().saturating_sub(70);
-        for task in (0..set.tasks.len()).filter(|_| !seen.ticks.is_empty()) {
-            let is_lane = |line: &&str| line.strip_prefix("task ").is_some_and(|rest| rest.split(' ').next() == Some(&task.to_string()));
-            let lane = ran.text().lines().rev().find(is_lane).expect("a lane").as_bytes();
-            let width = if set.tasks.len() > 10 { 9 } else { 8 };
-            let sign = |tick: usize| lane.get(width + tick - from).copied().unwrap_or(b' ');
-            for (tick, &(running, runs)) in seen.ticks.iter().enumerate().skip(from) {
-                match running == Some(task) {
-                    true => assert_eq!(sign(tick), runs, "{}", ran.text()),
-                    false => assert!(matches!(sign(tick), b' ' | b'.'), "{}", ran.text()),
-                }
-            }
-            let misses = seen.missed.iter().any(|job| job.task == task);
-            assert_eq!(sign(seen.ticks.len()) == b'!', misses, "{}", ran.text());
-        }
+        (0..set.tasks.len()).filter(|_| !seen.ticks.is_empty()).for_each(|task| lane_shows(ran.text(), &set, &seen, task));
         *(if expected.missed.is_some() { &mut missed } else { &mut done }) += 1;
     }
     println!("400 random runs: {missed} miss, {done} are done");
