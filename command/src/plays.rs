@@ -20,10 +20,8 @@ pub const LOCKED: u8 = 32;
 /// The longest play: a job is released by the greatest tick, and misses so much later at the latest.
 const MOST_PLAYED: u32 = 2 * MOST_TICKS;
 
-/// Bytes that hold every worst run, as is argued and not proved: its own job and the blocker's are two entries; those of the higher tasks,
-/// which pass and so have no more jobs in the long run than there are ticks, are at most the ticks up to the deadline and one for each. A
-/// longer one would be answered with 12, and end in status 3.
-const WORST_RUN_ROOM: usize = script::length(MOST_TASKS, MOST_TICKS as usize + MOST_TASKS + 1);
+/// Bytes that hold every worst run, as is proved: an entry for each tick up to the deadline, and one more for each task.
+const WORST_RUN_ROOM: usize = script::length(MOST_TASKS, MOST_TICKS as usize + MOST_TASKS);
 
 /// How a play ends.
 #[derive(Clone, Copy, Debug, PartialEq, Eq)]
