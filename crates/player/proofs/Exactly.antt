@@ -19,6 +19,8 @@ use Rattle.plays.specs.ScriptRun.{by-place, script-run}
 use Rattle.plays.specs.Broken.{BrokenAt}
 use Rattle.plays.specs.Play.{misser}
 use Rattle.plays.specs.Says.{FirstMiss, NeverMisses, LastComplete}
+use Rattle.plays.specs.OfScript.{OfScript}
+use Rattle.plays.proofs.OfScript.{of-script}
 use Rattle.plays.proofs.Refused.{item-refused, broken-refused}
 use Rattle.plays.proofs.ScriptLegal.{script-legal}
 use Rattle.plays.proofs.PlaySays.{play-misses, play-done}
@@ -29,7 +31,7 @@ use Rattle.player.specs.declared.PlayRefusal.{PlayRefusal}
 use Rattle.player.specs.declared.PlayRefusal.the-variants.{Base, Malformed as ill-made, Item}
 use Rattle.player.specs.declared.Played.{Played}
 use Rattle.player.specs.declared.Played.the-variants.{Missed, Done, TurnedAway}
-use Rattle.player.proofs.Turned.{sheet-turns, form-turns, item-turns, Told, by-sheet, by-form, by-item, told}
+use Rattle.player.proofs.Turned.{few-tasks, sheet-turns, form-turns, item-turns, Told, by-sheet, by-form, by-item, told}
 use Rattle.player.proofs.Ways.{is-playing, is-ready, played-turned, played-ends}
 
 -- ---- answers that differ
@@ -118,12 +120,12 @@ module _ (sheet bytes : List ℕ) where
       ↔ ((first-refusal (sheet-checks sheet) ≡ none) × (well-made (length (tasks-of sheet)) bytes ≡ true) × BrokenAt (order-in sheet) (tasks-of sheet) (script-for sheet bytes) j)
   item-exactly j = (
     λ e. go j (told-of e),
-    λ (s, w, b). turned-exactly (Item j) .1 (item-turns sheet bytes s w (broken-refused (order-in sheet) (tasks-of sheet) (script-for sheet bytes) in-order j b)),
+    λ (s, w, b). turned-exactly (Item j) .1 (item-turns sheet bytes s w (broken-refused (order-in sheet) (tasks-of sheet) (script-for sheet bytes) (few-tasks sheet s) in-order j b)),
   )
     where
       go : (k : ℕ) → Told sheet bytes (some (Item k))
           → (first-refusal (sheet-checks sheet) ≡ none) × (well-made (length (tasks-of sheet)) bytes ≡ true) × BrokenAt (order-in sheet) (tasks-of sheet) (script-for sheet bytes) k
-      go _ (by-item k s w f) = (s, w, item-refused (order-in sheet) (tasks-of sheet) (script-for sheet bytes) in-order k f)
+      go _ (by-item k s w f) = (s, w, item-refused (order-in sheet) (tasks-of sheet) (script-for sheet bytes) (few-tasks sheet s) in-order k f)
 
   -- ---- played
 
@@ -138,6 +140,10 @@ module _ (sheet bytes : List ℕ) where
     pub run-of-set : (n : ℕ) → RunOf (policy-of sheet) (tasks-of sheet) (script-run (order-in sheet) (tasks-of sheet) (script-for sheet bytes) n)
     unfolding RunOf ordered-set order-in
     run-of-set n = legal n
+
+    -- and it does what the script says
+    pub run-of-script : (n : ℕ) → OfScript (order-in sheet) (tasks-of sheet) (script-for sheet bytes) n
+    run-of-script = of-script (order-in sheet) (tasks-of sheet) (script-for sheet bytes) (ready .kept)
 
     ends-missing : (t i : ℕ) → ((stops-at sheet bytes ≡ t) × (misser (order-in sheet) (tasks-of sheet) (script-for sheet bytes) t ≡ some i)) ↔ FirstMiss (order-in sheet) (tasks-of sheet) (script-for sheet bytes) t i
     unfolding stops-at

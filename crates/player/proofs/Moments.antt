@@ -193,7 +193,7 @@ module _ (order : List ℕ) (tasks : List Task) (sc : Script) where
           go (idle e is none-pending) = inr (is, λ p h. none-pending p (omega (arith, by-place-length order tasks)))
 
       -- the player picks the task that has the tick
-      pub picks : picked-by order player .picked ≡ shown-task order tasks sc (pick by (script-seen order tasks sc t))
+      pub picks : picked-by order player .picked ≡ shown-task order (pick by (script-seen order tasks sc t))
       unfolding picked-by
       picks = pick-shows order tasks sc (ready .permutes) (ready .few) seen player (at .shows) (held-at t)
 
@@ -218,11 +218,11 @@ module _ (order : List ℕ) (tasks : List Task) (sc : Script) where
       -- the number of a task that has the tick is a task's
       someone : (p : ℕ) → pick by seen ≡ some p → p < length order → now .picked < most-tasks
       unfolding shown-task
-      someone p is h = omega (arith, picks ∙ ap (shown-task order tasks sc) is, number-found order tasks (ready .permutes) p h, ready .few)
+      someone p is h = omega (arith, picks ∙ ap (shown-task order) is, number-found order tasks (ready .permutes) p h, ready .few)
 
       nobody : pick by seen ≡ none → now .picked ≡ most-tasks
       unfolding shown-task
-      nobody is = picks ∙ ap (shown-task order tasks sc) is
+      nobody is = picks ∙ ap (shown-task order) is
 
       -- a number that is no task's is that of nobody
       pub nobody-picked : most-tasks ≤ picked-by order player .picked → picked-by order player .picked ≡ most-tasks

@@ -65,11 +65,11 @@ module _ (order : List ℕ) (tasks : List Task) (sc : Script) (permutes : Permut
     pick-held e = rw (shows .coming, e)
 
     -- the task that the player picks is that of the place that has the tick
-    pub pick-shows : Held by s → pick-task order player ≡ shown-task order tasks sc (pick by s)
+    pub pick-shows : Held by s → pick-task order player ≡ shown-task order (pick by s)
     unfolding shown-task number-at
     pick-shows held = go (picked by s)
       where
-        go : Picked by s → pick-task order player ≡ shown-task order tasks sc (pick by s)
+        go : Picked by s → pick-task order player ≡ shown-task order (pick by s)
         go (in-stretch m e q) = rw q (pick-held e ∙ sym (shows .holder (omega arith)))
         go (highest p e q l pend first) =
             rw q
@@ -153,7 +153,7 @@ module _ (order : List ℕ) (tasks : List Task) (sc : Script) (permutes : Permut
         (ap stretch-by (sym (slot-lock sc (number-at order p) (slot-at s player shows p h) (omega (arith, left-at s player shows p h)))))
 
     -- a tick of the player goes the way of the theory's, with the stretch that the script chooses
-    pub tick-shows : player .picked ≡ shown-task order tasks sc (pick by s)
+    pub tick-shows : player .picked ≡ shown-task order (pick by s)
         → Shows order tasks sc (tick (pick by s) (new-stretch order sc s (pick by s)) s) (ticked player)
     unfolding shown-task
     tick-shows has-it = go (picked by s)
@@ -162,7 +162,7 @@ module _ (order : List ℕ) (tasks : List Task) (sc : Script) (permutes : Permut
             → stretch-in player ≡ stretch-now (s .to-come) (new-stretch order sc s (some p))
             → Shows order tasks sc (tick (pick by s) (new-stretch order sc s (pick by s)) s) (ticked player)
         given p q h pend same =
-            let its : player .picked ≡ number-at order p = has-it ∙ ap (shown-task order tasks sc) q in
+            let its : player .picked ≡ number-at order p = has-it ∙ ap (shown-task order) q in
             rw (q, ← own.tick-served player (omega (arith, number-in (length tasks) order permutes p h)))
             (served-shows s player shows p (new-stretch order sc s (some p)) h pend its same)
 
@@ -171,9 +171,9 @@ module _ (order : List ℕ) (tasks : List Task) (sc : Script) (permutes : Permut
             given (s .owner) q (omega (arith, held .in-set (omega arith), places)) (held .job-pending (omega arith)) (under-way (new-stretch order sc s (some (s .owner))) e)
         go (highest p e q l pend first) =
             let h : p < length tasks = omega (arith, places) in
-            given p q h pend (starts p h pend (has-it ∙ ap (shown-task order tasks sc) q) e)
+            given p q h pend (starts p h pend (has-it ∙ ap (shown-task order) q) e)
         go (idle e q none-pending) =
-            let nobody : player .picked ≡ most-tasks = has-it ∙ ap (shown-task order tasks sc) q in
+            let nobody : player .picked ≡ most-tasks = has-it ∙ ap (shown-task order) q in
             rw (tick-idle (new-stretch order sc s (pick by s)) s q, ← own.tick-idle player (omega arith)) shows
 
     no-stretch : s .to-come ≡ 0 → _≡_ {A = ℕ} (shown-stretch (stretch-now (s .to-come) (new-stretch order sc s none))) 0
@@ -181,23 +181,23 @@ module _ (order : List ℕ) (tasks : List Task) (sc : Script) (permutes : Permut
     no-stretch e = rw e
 
     -- what the tick shows
-    pub tick-byte : player .picked ≡ shown-task order tasks sc (pick by s)
-        → shown-byte player ≡ shown-task order tasks sc (pick by s) + shown-stretch (stretch-now (s .to-come) (new-stretch order sc s (pick by s)))
+    pub tick-byte : player .picked ≡ shown-task order (pick by s)
+        → shown-byte player ≡ shown-task order (pick by s) + shown-stretch (stretch-now (s .to-come) (new-stretch order sc s (pick by s)))
     unfolding shown-task
     tick-byte has-it = go (picked by s)
       where
         given : (p : ℕ) → pick by s ≡ some p → p < length tasks → stretch-in player ≡ stretch-now (s .to-come) (new-stretch order sc s (some p))
-            → shown-byte player ≡ shown-task order tasks sc (pick by s) + shown-stretch (stretch-now (s .to-come) (new-stretch order sc s (pick by s)))
+            → shown-byte player ≡ shown-task order (pick by s) + shown-stretch (stretch-now (s .to-come) (new-stretch order sc s (pick by s)))
         given p q h same =
-            let its : player .picked ≡ number-at order p = has-it ∙ ap (shown-task order tasks sc) q in
+            let its : player .picked ≡ number-at order p = has-it ∙ ap (shown-task order) q in
             rw q (own.shown-some player (omega (arith, number-in (length tasks) order permutes p h)) ∙ ap₂ _+_ its (ap shown-stretch same))
 
         nothing-shown : s .to-come ≡ 0 → _≡_ {A = ℕ} (most-tasks + shown-stretch (stretch-now (s .to-come) (new-stretch order sc s none))) most-tasks
         nothing-shown e = omega (arith, no-stretch e)
 
-        go : Picked by s → shown-byte player ≡ shown-task order tasks sc (pick by s) + shown-stretch (stretch-now (s .to-come) (new-stretch order sc s (pick by s)))
+        go : Picked by s → shown-byte player ≡ shown-task order (pick by s) + shown-stretch (stretch-now (s .to-come) (new-stretch order sc s (pick by s)))
         go (in-stretch m e q) = given (s .owner) q (omega (arith, held .in-set (omega arith), places)) (under-way (new-stretch order sc s (some (s .owner))) e)
         go (highest p e q l pend first) =
             let h : p < length tasks = omega (arith, places) in
-            given p q h (starts p h pend (has-it ∙ ap (shown-task order tasks sc) q) e)
-        go (idle e q none-pending) = rw q (own.shown-none player (has-it ∙ ap (shown-task order tasks sc) q) ∙ sym (nothing-shown e))
+            given p q h (starts p h pend (has-it ∙ ap (shown-task order) q) e)
+        go (idle e q none-pending) = rw q (own.shown-none player (has-it ∙ ap (shown-task order) q) ∙ sym (nothing-shown e))

@@ -3,17 +3,24 @@ use mathlib.Core.Bool.{Bool, true, false, not}
 use mathlib.Core.List.{List, _∷_}
 use mathlib.Core.Option.{Option, none, some}
 use mathlib.Core.Path.{_≡_, refl, ap, _∙_}
-use Prim.Native.Nat.{ℕ}
+use Prim.Native.Nat.{ℕ, _≤_}
 use lib.ListN.{length}
 use Rattle.lent.specs.Checks.{Check, _⇒_, first-refusal, retold}
 use Rattle.lent.proofs.Checks.{applies, passed-over, none-first, some-first, retold-none, retold-some}
+use Rattle.sheet.specs.Constants.{most-tasks}
 use Rattle.sheet.specs.Reading.{sheet-checks, tasks-of}
 use Rattle.sheet.specs.declared.Refusal.{Refusal}
+use Rattle.sheet.proofs.Checks.{admits}
+use Rattle.sheet.proofs.Carried.{reading-answer, by-reading}
 use Rattle.plays.specs.Items.{item-checks}
 use Rattle.scripts.specs.Reading.{well-made}
 use Rattle.player.specs.Answers.{script-for, play-checks}
 use Rattle.player.specs.declared.PlayRefusal.{PlayRefusal}
 use Rattle.player.specs.declared.PlayRefusal.the-variants.{Base, Malformed as ill-made, Item}
+
+-- an admitted sheet has at most sixteen tasks
+pub few-tasks : (sheet : List ℕ) → first-refusal (sheet-checks sheet) ≡ none → length (tasks-of sheet) ≤ most-tasks
+few-tasks sheet s = by-reading sheet (reading-answer sheet ∙ admits (sheet-checks sheet) s) .few-tasks
 
 module _ (sheet bytes : List ℕ) where
   abbrev form-check : Check PlayRefusal

@@ -13,8 +13,6 @@ use Rattle.sheet.specs.Constants.{most-tasks, greatest-time}
 use Rattle.sheet.specs.Reading.{sheet-checks, policy-of, tasks-of}
 use Rattle.sheet.specs.declared.Refusal.{Refusal}
 use Rattle.sheet.specs.declared.Refusal.the-variants.{Room}
-use Rattle.sheet.proofs.Checks.{admits}
-use Rattle.sheet.proofs.Carried.{reading-answer, by-reading}
 use Rattle.order.specs.Order.{priority-order}
 use Rattle.order.proofs.Order.{order-permutes}
 use Rattle.plays.specs.Script.{Script}
@@ -29,7 +27,7 @@ use Rattle.player.specs.declared.PlayRefusal.{PlayRefusal}
 use Rattle.player.specs.declared.PlayRefusal.the-variants.{Base, Malformed as ill-made, Item}
 use Rattle.player.specs.declared.Played.{Played}
 use Rattle.player.specs.declared.Played.the-variants.{Missed, Done, TurnedAway}
-use Rattle.player.proofs.Turned.{Told, by-sheet, by-form, by-item, told}
+use Rattle.player.proofs.Turned.{few-tasks, Told, by-sheet, by-form, by-item, told}
 use Rattle.player.proofs.Ways.{Playing, is-playing, is-ready, played-turned, played-ends, Traced, not-played, no-room, is-traced, trace-way}
 
 -- an item that is wrong is one of the script
@@ -51,9 +49,6 @@ module _ (sheet bytes : List ℕ) where
     done-within : (t : ℕ) → t ≤ 2 * greatest-time → Within (Done t)
     turned-within : (r : PlayRefusal) → RefusalWithin r → Within (TurnedAway r)
 
-  few-tasks : first-refusal (sheet-checks sheet) ≡ none → length (tasks-of sheet) ≤ most-tasks
-  few-tasks s = by-reading sheet (reading-answer sheet ∙ admits (sheet-checks sheet) s) .few-tasks
-
   refusal-within : {r : PlayRefusal} → first-refusal (play-checks sheet bytes) ≡ some r → RefusalWithin r
   unfolding script-for
   refusal-within {r} e = go r (subst (Told sheet bytes) e (told sheet bytes))
@@ -63,8 +58,8 @@ module _ (sheet bytes : List ℕ) where
       go _ (by-form s w) = script-within
       go _ (by-item j s w f) =
           let fits = numbers-fit (length (tasks-of sheet)) bytes in
-          let it-is = item-in _ _ _ j (item-refused (priority-order (policy-of sheet) (tasks-of sheet)) _ _ (order-permutes (policy-of sheet) (tasks-of sheet)) j f) in
-          item-within j (omega (arith, it-is, fits .as-many, fits .few-entries, few-tasks s))
+          let it-is = item-in _ _ _ j (item-refused (priority-order (policy-of sheet) (tasks-of sheet)) _ _ (few-tasks sheet s) (order-permutes (policy-of sheet) (tasks-of sheet)) j f) in
+          item-within j (omega (arith, it-is, fits .as-many, fits .few-entries, few-tasks sheet s))
 
   end-within : Playing sheet bytes → Within (play-end sheet bytes)
   unfolding play-end ended stops-at misser

@@ -18,10 +18,11 @@ use Rattle.player.specs.declared.PlayRefusal.the-variants.{Base, Malform
 use Rattle.player.specs.declared.Played.{Played}
 use Rattle.player.specs.declared.Played.the-variants.{Missed, Done, TurnedAway}
 
--- the task numbers of a sheet in priority order, and the script in some bytes for it
+-- the task numbers of a sheet in priority order
 unfoldable pub order-in : List ℕ → List ℕ
 order-in sheet = priority-order (policy-of sheet) (tasks-of sheet)
 
+-- the script in some bytes, read for the tasks of a sheet
 unfoldable pub script-for : List ℕ → List ℕ → Script
 script-for sheet bytes = script-in (length (tasks-of sheet)) bytes
 
@@ -42,6 +43,7 @@ module _ (sheet bytes : List ℕ) where
   unfoldable pub stops-at : ℕ
   stops-at = end-of-play (order-in sheet) (tasks-of sheet) (script-for sheet bytes)
 
+  -- how it ends there
   unfoldable pub play-end : Played
   play-end = ended stops-at (misser (order-in sheet) (tasks-of sheet) (script-for sheet bytes) stops-at)
 
@@ -58,8 +60,10 @@ module _ (sheet bytes : List ℕ) where
         says = play-end;
       }
 
+  -- what a trace answers
   unfoldable pub traced : List ℕ → Played
   traced room = answered (Base Room) TurnedAway tracing room
 
+  -- what the lent bytes hold afterwards
   unfoldable pub trace-left : List ℕ → List ℕ
   trace-left room = left-after (Base Room) tracing room

@@ -44,6 +44,7 @@ first-pending left (i ∷ is) = cond (ltb 0 (getD left i 0)) i (first-pending le
 unfoldable pub pick-task : List ℕ → Player → ℕ
 pick-task order s = elim (s .«to_come») [ zero ↦ first-pending (s .left) order | suc n ↦ s .picked ]
 
+-- the state with that task picked
 unfoldable pub picked-by : List ℕ → Player → Player
 picked-by order s = record { left = s .left; due = s .due; lock = s .lock; picked = pick-task order s; «to_come» = s .«to_come» }
 
@@ -75,6 +76,7 @@ late left due t = ltb 0 left && eqb due t
 unfoldable pub first-late : List ℕ → List ℕ → ℕ → ℕ → ℕ
 first-late left due n t = Option·getD (first 0 n (λ i. late (getD left i 0) (getD due i 0) t)) most-tasks
 
+-- the same of the tasks in a state
 abbrev pub misser-in : Player → ℕ → ℕ → ℕ
 misser-in s n t = first-late (s .left) (s .due) n t
 

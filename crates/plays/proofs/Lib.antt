@@ -1,5 +1,6 @@
 -- The theorems on scripts and plays are in ScriptLegal, Refused, OnePending, PlayEnds, PlaySays, TickSays, WorstPlayed, WorstSound and WorstMiss; the rest stands below these.
 pub mod ScriptLegal
+pub mod OfScript
 pub mod Refused
 pub mod OnePending
 pub mod PlayEnds

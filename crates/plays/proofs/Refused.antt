@@ -17,13 +17,14 @@ use Rattle.theory.proofs.Search.{Answer, nothing, it-is, answer}
 use Rattle.theory.proofs.Tests.{refused}
 use Rattle.lent.specs.Checks.{Check, _⇒_, first-refusal}
 use Rattle.lent.proofs.Checks.{applies, passed-over, no-check, none-first, some-first}
+use Rattle.sheet.specs.Constants.{most-tasks}
 use Rattle.order.specs.Claims.{Permutes}
 use Rattle.analysis.specs.Times.{number-at, place-of}
 use Rattle.analysis.proofs.Numbering.{number-back}
 use Rattle.plays.specs.Script.{Script, no-entry}
 use Rattle.plays.specs.declared.Entry.{Entry}
 use Rattle.plays.specs.Items.{Ledger, standing, first-ledger, after-entry, sound, first-frame-checks, entry-checks, item-checks}
-use Rattle.plays.specs.Broken.{cut, FramesBefore, Follows, lane-before, EntryBreaks, no-such-task, lock-too-long, out-of-order, too-soon, too-much-work, NoneBreaks, BrokenAt, no-such-frame, broken-entry}
+use Rattle.plays.specs.Broken.{cut, FramesBefore, Before, Follows, lane-before, EntryBreaks, no-such-task, lock-too-long, out-of-order, too-soon, too-much-work, NoneBreaks, BrokenAt, no-such-frame, broken-entry}
 use Rattle.plays.proofs.ScriptLanes.{place-found}
 use Rattle.plays.proofs.Ledgers.{after-entries, InOrder, in-order-begin, own-before, ledger-at, Sound, sound-is, each-sound, checked-in-order}
 use Rattle.plays.proofs.ScriptLegal.{firsts-fit, firsts-and-entries}
@@ -110,7 +111,21 @@ goes-on xs e ys xs′ ys′ same h =
     sym (List·getD-append xs′ ys′ no-entry n h) ∙ ap (λ l. getD l n no-entry) (sym same) ∙ getD-append-seam xs e ys no-entry in
     (drop (suc n) xs′, split-at xs′ n no-entry h ∙ ap₂ (λ l d. l ++ (d ∷ drop (suc n) xs′)) begin next)
 
-module _ (order : List ℕ) (tasks : List Task) (sc : Script) (permutes : Permutes (length tasks) order) where
+-- the standing of entries goes by tick and then task number, since task numbers are below sixteen
+stands-before : (d e : Entry) → e .task < most-tasks → standing d < standing e → Before d e
+unfolding standing
+stands-before d e in-set h = go (decLt (d .tick) (e .tick))
+  where
+    go : Dec (d .tick < e .tick) → Before d e
+    go (yes sooner) = inl sooner
+    go (no n) = inr (omega arith, omega arith)
+
+before-stands : (d e : Entry) → d .task < most-tasks → Before d e → standing d < standing e
+unfolding standing
+before-stands d e in-set (inl sooner) = omega arith
+before-stands d e in-set (inr (same, lower)) = omega arith
+
+module _ (order : List ℕ) (tasks : List Task) (sc : Script) (few : length tasks ≤ most-tasks) (permutes : Permutes (length tasks) order) where
   -- the ledger behind the entries xs of the script
   abbrev ledger : List Entry → Ledger
   ledger xs = after-entries tasks (first-ledger (sc .firsts)) xs
@@ -129,9 +144,9 @@ module _ (order : List ℕ) (tasks : List Task) (sc : Script) (permutes : Permut
           let split : xs ≡ us ++ (d ∷ []) = q ∙ concat-eq-append us d in
           (us, d, split, omega (arith, rw split at h, behind-last tasks (first-ledger (sc .firsts)) us d))
 
-  -- one that it allows follows
-  behind-follows : (xs : List Entry) (e : Entry) → ledger xs .behind ≤ standing e → Follows xs e
-  behind-follows xs e h us d split = omega (arith, rw split at h, behind-last tasks (first-ledger (sc .firsts)) us d)
+  -- one of a task of the set that it allows follows
+  behind-follows : (xs : List Entry) (e : Entry) → e .task < length tasks → ledger xs .behind ≤ standing e → Follows xs e
+  behind-follows xs e in-set h us d split = stands-before d e (omega arith) (omega (arith, rw split at h, behind-last tasks (first-ledger (sc .firsts)) us d))
 
   module _ (xs : List Entry) (e : Entry) (o : InOrder 0 xs) where
     longer-in-order : ledger xs .behind ≤ standing e → InOrder 0 (xs ++ (e ∷ []))
@@ -149,8 +164,8 @@ module _ (order : List ℕ) (tasks : List Task) (sc : Script) (permutes : Permut
         rw same at lane
 
     -- an entry that is not sound breaks something
-    unsound-breaks : ¬ Sound tasks (ledger xs) e → EntryBreaks order tasks sc xs e
-    unsound-breaks bad =
+    unsound-breaks : ((us : List Entry) (d : Entry) → xs ≡ us ++ (d ∷ []) → d .task < length tasks) → ¬ Sound tasks (ledger xs) e → EntryBreaks order tasks sc xs e
+    unsound-breaks last-in bad =
         go (decLt (e .task) (length tasks)) (decLe (e .lock) (task-at tasks (e .task) .lock)) (decLe (ledger xs .behind) (standing e))
         (decLe (ledger xs .free-from (e .task)) (e .tick)) (decLe (e .work) (frame (task-at tasks (e .task)) (ledger xs .next (e .task))))
       where
@@ -159,16 +174,18 @@ module _ (order : List ℕ) (tasks : List Task) (sc : Script) (permutes : Permut
             → EntryBreaks order tasks sc xs e
         go (no n) lock turn apart work = no-such-task (omega arith)
         go (yes i) (no n) turn apart work = lock-too-long (omega arith)
-        go (yes i) (yes l) (no n) apart work = let (us, d, split, h) = not-behind xs e (omega arith) in out-of-order us d split h
-        go (yes i) (yes l) (yes b) (no n) work = too-soon i (behind-follows xs e b) (rw (← ledger-is-cut-lane i b .1) (omega arith))
-        go (yes i) (yes l) (yes b) (yes a) (no n) = too-much-work i (behind-follows xs e b) (rw (← ledger-is-cut-lane i b .0) (omega arith))
+        go (yes i) (yes l) (no n) apart work =
+            let (us, d, split, h) = not-behind xs e (omega arith) in
+            out-of-order us d split (λ before. omega (arith, before-stands d e (omega (arith, last-in us d split)) before))
+        go (yes i) (yes l) (yes b) (no n) work = too-soon i (behind-follows xs e i b) (rw (← ledger-is-cut-lane i b .1) (omega arith))
+        go (yes i) (yes l) (yes b) (yes a) (no n) = too-much-work i (behind-follows xs e i b) (rw (← ledger-is-cut-lane i b .0) (omega arith))
         go (yes i) (yes l) (yes b) (yes a) (yes w) = absurd (bad (record { in-set = i; lock-fits = l; in-turn = b; apart = a; work-fits = w }))
 
     -- a sound one breaks nothing
     sound-breaks-nothing : Sound tasks (ledger xs) e → EntryBreaks order tasks sc xs e → ⊥
     sound-breaks-nothing s (no-such-task h) = omega (arith, s .in-set)
     sound-breaks-nothing s (lock-too-long h) = omega (arith, s .lock-fits)
-    sound-breaks-nothing s (out-of-order us d split h) = omega (arith, behind-follows xs e (s .in-turn) us d split)
+    sound-breaks-nothing s (out-of-order us d split h) = h (behind-follows xs e (s .in-set) (s .in-turn) us d split)
     sound-breaks-nothing s (too-soon i f h) = omega (arith, s .apart, ledger-is-cut-lane i (s .in-turn) .1)
     sound-breaks-nothing s (too-much-work i f h) =
         let fits : e .work ≤ frame (task-at tasks (e .task)) (lane-before order tasks sc xs e .next) = rw (← ledger-is-cut-lane i (s .in-turn) .0) (s .work-fits) in
@@ -199,7 +216,9 @@ module _ (order : List ℕ) (tasks : List Task) (sc : Script) (permutes : Permut
   entry-refused j frames h =
       let (xs, e, ys, split, at, kept, bad) = entry-turned-away tasks (length (sc .firsts)) (first-ledger (sc .firsts)) (sc .entries) j h in
       broken-entry xs e ys split at (frames-pass frames) (passed-unbroken xs kept)
-      (unsound-breaks xs e (passed-in-order xs kept) (refused bad (sound-is tasks (ledger xs) e)))
+      (unsound-breaks xs e (passed-in-order xs kept)
+      (λ us d last. each-sound tasks (length (sc .firsts)) (first-ledger (sc .firsts)) us d [] (rw (← last) kept) .in-set)
+      (refused bad (sound-is tasks (ledger xs) e)))
 
   -- the item that is turned away is the first that is wrong
   pub item-refused : (j : ℕ) → first-refusal (item-checks tasks sc) ≡ some j → BrokenAt order tasks sc j

@@ -12,7 +12,8 @@ use Rattle.analysis.specs.Times.{number-at}
 use Rattle.plays.specs.Script.{Script}
 use Rattle.plays.specs.ScriptRun.{by-place, stretch-at, new-stretch, choice, script-run}
 use Rattle.plays.specs.Play.{script-seen, shown-stretch, shown-task, shown}
-use Rattle.plays.specs.Says.{has-tick, stretch-length, TickSays, idle as is-idle, unlocked, locked}
+use Rattle.plays.specs.OfScript.{has-tick}
+use Rattle.plays.specs.Says.{stretch-length, TickSays, idle as is-idle, unlocked, locked}
 use Rattle.plays.proofs.States.{run-seen}
 
 module _ (order : List ℕ) (tasks : List Task) (sc : Script) (n u : ℕ) where
@@ -46,7 +47,7 @@ module _ (order : List ℕ) (tasks : List Task) (sc : Script) (n u : ℕ) where
   unfolding shown shown-task shown-stretch
   shown-says = go at length-now refl refl
     where
-      go : (o : Option ℕ) (m : ℕ) → at ≡ o → length-now ≡ m → TickSays order tasks sc n u (shown-task order tasks sc o + shown-stretch m)
+      go : (o : Option ℕ) (m : ℕ) → at ≡ o → length-now ≡ m → TickSays order tasks sc n u (shown-task order o + shown-stretch m)
       go none zero a l = is-idle (same-place ∙ a)
       go none (suc m) a l = let z : ⊥ = omega (arith, none-idle a) in absurd z
       go (some p) zero a l = rw (add-zero (number-at order p)) (unlocked p (same-place ∙ a) (same-stretch ∙ l))

@@ -1,5 +1,6 @@
 -- SCOPE.md, "Run scripts": what is wrong with the item that refusal 14 names. An entry is held against the run of the script that ends before it.
 use mathlib.Core.List.{List, [], _∷_, _++_}
+use mathlib.Core.Logic.{_⊎_}
 use mathlib.Core.Path.{_≡_}
 use Prim.Native.Nat.{ℕ, _+_, _≤_, _<_}
 use lib.ListN.{length, getD}
@@ -8,7 +9,6 @@ use Rattle.theory.specs.Runs.{Lane}
 use Rattle.analysis.specs.Times.{place-of}
 use Rattle.plays.specs.Script.{Script}
 use Rattle.plays.specs.declared.Entry.{Entry}
-use Rattle.plays.specs.Items.{standing}
 use Rattle.plays.specs.ScriptRun.{script-state}
 
 -- the script with these entries alone
@@ -19,9 +19,13 @@ cut sc xs = record { firsts = sc .firsts; entries = xs }
 abbrev pub FramesBefore : List Task → Script → ℕ → Type 0
 FramesBefore tasks sc n = (i : ℕ) → i < n → getD (sc .firsts) i 0 < frame-count (task-at tasks i)
 
--- an entry behind xs is in order: the last of xs stands before it, by tick and then task number
+-- an entry stands before another: its tick is earlier, or it is the same and its task number is lower
+abbrev pub Before : Entry → Entry → Type 0
+Before d e = (d .tick < e .tick) ⊎ ((d .tick ≡ e .tick) × (d .task < e .task))
+
+-- an entry behind xs is in order: the last of xs stands before it
 abbrev pub Follows : List Entry → Entry → Type 0
-Follows xs e = (us : List Entry) (d : Entry) → xs ≡ us ++ (d ∷ []) → standing d < standing e
+Follows xs e = (us : List Entry) (d : Entry) → xs ≡ us ++ (d ∷ []) → Before d e
 
 module _ (order : List ℕ) (tasks : List Task) (sc : Script) where
   -- the lane of an entry's task at its tick, before the releases of that tick, where the entries before it are xs
@@ -34,8 +38,8 @@ module _ (order : List ℕ) (tasks : List Task) (sc : Script) where
     no-such-task : length tasks ≤ e .task → EntryBreaks xs e
     -- its lock is above the task's Q
     lock-too-long : task-at tasks (e .task) .lock < e .lock → EntryBreaks xs e
-    -- the last of xs stands behind it, or at the same place
-    out-of-order : (us : List Entry) (d : Entry) → xs ≡ us ++ (d ∷ []) → standing e ≤ standing d → EntryBreaks xs e
+    -- the last of xs does not stand before it
+    out-of-order : (us : List Entry) (d : Entry) → xs ≡ us ++ (d ∷ []) → ¬ Before d e → EntryBreaks xs e
     -- of a task of the set, in order, and less than its period behind the task's last release in the run of the script cut before the entry
     too-soon : e .task < length tasks → Follows xs e → e .tick < lane-before xs e .free-from → EntryBreaks xs e
     -- of a task of the set, in order, with more work than the time of the frame that its job takes in that run

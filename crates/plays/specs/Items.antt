@@ -46,6 +46,7 @@ in-order c e = leb (c .behind) (standing e)
 unfoldable pub by-rules : List Task → Ledger → Entry → Bool
 by-rules tasks c e = leb (c .free-from (e .task)) (e .tick) && leb (e .work) (frame (task-at tasks (e .task)) (c .next (e .task)))
 
+-- an entry that is not turned away
 unfoldable pub sound : List Task → Ledger → Entry → Bool
 sound tasks c e = in-range tasks e && in-order c e && by-rules tasks c e
 

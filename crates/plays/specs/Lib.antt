@@ -2,6 +2,7 @@
 pub mod Script
 pub mod Items
 pub mod ScriptRun
+pub mod OfScript
 pub mod Broken
 pub mod Play
 pub mod Says

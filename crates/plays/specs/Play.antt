@@ -24,6 +24,11 @@ unfoldable pub all-released : List Entry → ℕ → Bool
 all-released [] t = true
 all-released (e ∷ es) t = leb (e .tick) t && all-released es t
 
+-- the number of the task that has a tick; the number behind the last task's for an idle one
+unfoldable pub shown-task : List ℕ → Option ℕ → ℕ
+shown-task order none = most-tasks
+shown-task order (some p) = number-at order p
+
 -- what a byte of a trace adds in a locked stretch, from its first tick on
 unfoldable pub shown-stretch : ℕ → ℕ
 shown-stretch zero = 0
@@ -46,26 +51,23 @@ module _ (order : List ℕ) (tasks : List Task) (sc : Script) where
   unfoldable pub all-done : ℕ → Bool
   all-done t = all-released (sc .entries) t && every 0 (length order) (λ p. not (pending (script-seen t .lanes p)))
 
-  -- the play ends at the first moment at which a task misses or all jobs are done
+  -- the play is over at moment t: a task misses, or all jobs are done
   unfoldable pub over : ℕ → Bool
   over t = found (misser t) || all-done t
 
-  -- every play has ended by twice the greatest time: a job is released by that time, and misses that much later at the latest
+  -- the moment at which the play ends: the first at which it is over, looked for up to twice the greatest time, since a job is released by that time and
+  -- misses that much later at the latest
   unfoldable pub end-of-play : ℕ
   end-of-play = Option·getD (first 0 (suc (2 * greatest-time)) over) 0
 
   -- ---- what a tick shows
 
-  -- the number of the task that has a tick; the number behind the last task's for an idle one
-  unfoldable pub shown-task : Option ℕ → ℕ
-  shown-task none = most-tasks
-  shown-task (some p) = number-at order p
-
+  -- the byte of tick t: the task that has it, and what a stretch adds
   unfoldable pub shown : ℕ → ℕ
   shown t =
       let seen = script-seen t in
       let picked = pick (by-place order tasks) seen in
-      shown-task picked + shown-stretch (stretch-now (seen .to-come) (new-stretch order sc seen picked))
+      shown-task order picked + shown-stretch (stretch-now (seen .to-come) (new-stretch order sc seen picked))
 
   -- n ticks from tick t on
   unfoldable pub shown-from : ℕ → ℕ → List ℕ

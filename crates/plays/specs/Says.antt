@@ -1,17 +1,17 @@
--- SCOPE.md, "The player": what the end of a play says of the script's run, in the words of the theory.
+-- SCOPE.md, "The player": what the end of a play and the bytes of a trace say of the script's run, in the words of the theory.
 use mathlib.Core.List.{List, List·Memᴰ}
 use mathlib.Core.Logic.{_⊎_}
-use mathlib.Core.Option.{Option, none, some}
+use mathlib.Core.Option.{none, some}
 use mathlib.Core.Path.{_≡_}
-use Prim.Native.Nat.{ℕ, suc, _+_, _*_, _≤_, _<_}
+use Prim.Native.Nat.{ℕ, suc, _+_, _≤_, _<_}
 use lib.ListN.{length}
 use Rattle.theory.specs.Tasks.{Task, task-at, deadline-of}
-use Rattle.theory.specs.Runs.{Run, seen-at, pick, stretch-now, Left, Misses}
-use Rattle.sheet.specs.Constants.{most-tasks}
+use Rattle.theory.specs.Runs.{Run, stretch-now, Left, Misses}
 use Rattle.analysis.specs.Times.{number-at, place-of}
 use Rattle.plays.specs.Script.{Script}
 use Rattle.plays.specs.declared.Entry.{Entry}
 use Rattle.plays.specs.ScriptRun.{by-place, script-run}
+use Rattle.plays.specs.OfScript.{seen-in, has-tick}
 
 -- every entry is released by tick t
 abbrev pub AllReleased : List Entry → ℕ → Type 0
@@ -60,16 +60,12 @@ module _ (order : List ℕ) (tasks : List Task) (sc : Script) where
     pub all-complete : (i r k w : ℕ) → i < length tasks → Left (by-place order tasks) (script-run order tasks sc (suc t)) (place-of order i) r k t w → w ≡ 0
     pub not-before : (u : ℕ) → u < t → Later (sc .entries) u ⊎ WorkLeft u
 
-  -- the place whose job has tick u of the run of n ticks, none where the tick is idle
-  abbrev pub has-tick : ℕ → ℕ → Option ℕ
-  has-tick n u = pick (by-place order tasks) (seen-at (by-place order tasks) (script-run order tasks sc n) u)
-
-  -- the length of the stretch at that tick, 0 for none
+  -- the length of the stretch at tick u of the run of n ticks, 0 for none
   abbrev pub stretch-length : ℕ → ℕ → ℕ
-  stretch-length n u = let run = script-run order tasks sc n in stretch-now (seen-at (by-place order tasks) run u .to-come) (run .input u .stretch)
+  stretch-length n u = stretch-now (seen-in order tasks sc n u .to-come) (script-run order tasks sc n .input u .stretch)
 
   -- what a byte says of that tick: it is idle, or a task has it, or a task has it in a locked stretch
   pub data TickSays (n u : ℕ) : ℕ → Type 0 where
-    idle : has-tick n u ≡ none → TickSays n u most-tasks
-    unlocked : (p : ℕ) → has-tick n u ≡ some p → stretch-length n u ≡ 0 → TickSays n u (number-at order p)
-    locked : (p m : ℕ) → has-tick n u ≡ some p → stretch-length n u ≡ suc m → TickSays n u (number-at order p + 2 * most-tasks)
+    idle : has-tick order tasks sc n u ≡ none → TickSays n u 16
+    unlocked : (p : ℕ) → has-tick order tasks sc n u ≡ some p → stretch-length n u ≡ 0 → TickSays n u (number-at order p)
+    locked : (p m : ℕ) → has-tick order tasks sc n u ≡ some p → stretch-length n u ≡ suc m → TickSays n u (number-at order p + 32)

@@ -11,7 +11,7 @@ pub record Script : Type 0 where
   pub firsts : List ℕ
   pub entries : List Entry
 
--- what stands past the last entry: nothing reads it
+-- a blank entry, which is answered past the last one
 abbrev pub no-entry : Entry
 no-entry = record { task = 0; tick = 0; work = 0; lock = 0 }
 

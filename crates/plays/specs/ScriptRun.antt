@@ -15,11 +15,12 @@ use Rattle.plays.specs.declared.Entry.{Entry}
 abbrev pub by-place : List ℕ → List Task → List Task
 by-place order tasks = map (task-at tasks) order
 
--- the work of an entry, and its lock; 0 where there is none
+-- the release that an entry makes, with its work; none where there is no entry
 unfoldable pub work-of : Option Entry → Option ℕ
 work-of none = none
 work-of (some e) = some (e .work)
 
+-- the lock of an entry; 0 where there is none
 unfoldable pub lock-of : Option Entry → ℕ
 lock-of none = 0
 lock-of (some e) = e .lock

@@ -11,11 +11,12 @@ use Rattle.scripts.specs.Reading.{script-in, well-made}
 use Rattle.scripts.specs.declared.Judgement.{Judgement}
 use Rattle.scripts.specs.declared.Judgement.the-variants.{Sound, Malformed, Unsound}
 
--- the answer to a row of items: the first that is turned away decides
+-- the answer where this item, if any, is the first that is turned away
 abbrev pub judged-by : Option ℕ → Judgement
 judged-by none = Sound
 judged-by (some j) = Unsound j
 
+-- the answer to a row of items
 unfoldable pub judged : List (Check ℕ) → Judgement
 judged cs = judged-by (first-refusal cs)
 

@@ -14,5 +14,6 @@ pub mod Signed
 pub mod Read
 pub mod Played
 pub mod Plays
+pub mod Worst
 pub mod WorstRuns
 pub mod Forwarded

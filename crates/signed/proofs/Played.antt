@@ -20,7 +20,7 @@ use Rattle.player.specs.declared.PlayRefusal.the-variants.{Base}
 use Rattle.player.specs.declared.Played.the-variants.{TurnedAway}
 use Rattle.player.proofs.Playing.{shown-length, shown-at}
 use Rattle.player.proofs.Ways.{played-turned, played-ends, Traced, not-played, no-room, is-traced, trace-way}
-use Rattle.player.proofs.Exactly.{turned-exactly, own-exactly, form-exactly, item-exactly, run-of-set, missed-exactly, done-exactly}
+use Rattle.player.proofs.Exactly.{turned-exactly, own-exactly, form-exactly, item-exactly, run-of-set, run-of-script, missed-exactly, done-exactly}
 use Rattle.signed.specs.Plays.{PlaySigned, ticks-said, TraceSigned}
 use Rattle.signed.proofs.Read.{admitted-is, refused-is, not-for-room, behind-laid}
 
@@ -42,6 +42,7 @@ module _ (sheet script : List ℕ) where
             let (there, back) = item-exactly sheet script j in
             (λ e. let (a, w, b) = there e in (admitted-is sheet .0 a, w, b), λ (a, w, b). back (admitted-is sheet .1 a, w, b));
         run-of-set = run-of-set sheet script;
+        run-of-script = run-of-script sheet script;
         missed = missed-exactly sheet script;
         done = done-exactly sheet script;
       }

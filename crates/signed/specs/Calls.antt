@@ -63,13 +63,18 @@ pub record Trace (sheet script before : List ℕ) (answer : Played) (after : Lis
   pub answers : answer ≡ traced sheet script before
   pub leaves : after ≡ trace-left sheet script before
 
+-- `worst_run`: a sheet, its worst run to lent bytes
+pub record WorstRun (sheet before : List ℕ) (answer : Worst) (after : List ℕ) : Type 0 where
+  pub answers : answer ≡ worst-answer sheet before
+  pub leaves : after ≡ worst-left sheet before
+
 -- `burrbeech_check_sheet`: a sheet, its times to lent bytes; the answer is a number
 pub record CheckSheetC (sheet before : List ℕ) (number : ℕ) (after : List ℕ) : Type 0 where
   pub answers : number ≡ entry-number sheet before
   pub leaves : after ≡ entry-left sheet before
 
 -- `burrbeech_analyse_sheet`, `burrbeech_analyse_list`, `burrbeech_read_list`, `burrbeech_write_list`, `burrbeech_report`, `burrbeech_play`,
--- `burrbeech_trace`: as the calls above, the answer by its number
+-- `burrbeech_trace`, `burrbeech_worst_run`: as the calls above, the answer by its number
 pub record AnalyseSheetC (sheet before : List ℕ) (number : ℕ) (after : List ℕ) : Type 0 where
   pub answers : number ≡ decision-number (sheet-decision sheet before)
   pub leaves : after ≡ sheet-left sheet before
@@ -97,12 +102,6 @@ pub record TraceC (sheet script before : List ℕ) (number : ℕ) (after : List 
   pub answers : number ≡ played-number (traced sheet script before)
   pub leaves : after ≡ trace-left sheet script before
 
--- `worst_run`: a sheet, its worst run to lent bytes
-pub record WorstRun (sheet before : List ℕ) (answer : Worst) (after : List ℕ) : Type 0 where
-  pub answers : answer ≡ worst-answer sheet before
-  pub leaves : after ≡ worst-left sheet before
-
--- `burrbeech_worst_run`
 pub record WorstRunC (sheet before : List ℕ) (number : ℕ) (after : List ℕ) : Type 0 where
   pub answers : number ≡ worst-number (worst-answer sheet before)
   pub leaves : after ≡ worst-left sheet before

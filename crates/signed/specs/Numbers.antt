@@ -4,7 +4,6 @@ use mathlib.Core.List.{[], _∷_}
 use Prim.Native.Nat.{ℕ, _+_, _-_, _*_, _/_, _%_, _≤_, _<_}
 use lib.Dec.{ltb, eqb}
 use lib.ListN.{getD}
-use Rattle.sheet.specs.Constants.{most-tasks}
 use Rattle.sheet.specs.declared.Reason.{Reason}
 use Rattle.sheet.specs.declared.Refusal.{Refusal}
 use Rattle.sheet.specs.declared.Refusal.the-variants.{Length, CheckWord, Version, Policy, BitSet, TaskCount, FrameCount, Records, IllFormed, Lock, NotMonotonic, Room}
@@ -32,7 +31,7 @@ use Rattle.signed.specs.Claims.{Said, holds, missed, refused}
 
 -- 16 stands for no blocker
 unfoldable pub blocker-by : ℕ → Blocker
-blocker-by b = cond (eqb b most-tasks) Nobody (At b)
+blocker-by b = cond (eqb b 16) Nobody (At b)
 
 -- `burrbeech_check_sheet`: 0 for holds, below 100 a refusal, else 100 + 17p + b
 unfoldable pub said-by : ℕ → Said
@@ -86,7 +85,7 @@ unfoldable pub ended-by : ℕ → Played
 ended-by detail =
     let tick = detail % 4294967296 in
     let task = detail / 4294967296 % 256 in
-    cond (eqb task most-tasks) (Done tick) (first-missed tick task)
+    cond (eqb task 16) (Done tick) (first-missed tick task)
 
 -- beside the refusals of every entry 13, and 14 with the item as its detail
 unfoldable pub play-refused-by : ℕ → PlayRefusal

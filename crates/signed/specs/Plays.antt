@@ -13,6 +13,7 @@ use Rattle.sheet.specs.declared.Refusal.{Refusal}
 use Rattle.sheet.specs.declared.Refusal.the-variants.{Room}
 use Rattle.analysis.specs.Runs.{RunOf}
 use Rattle.plays.specs.ScriptRun.{script-run}
+use Rattle.plays.specs.OfScript.{OfScript}
 use Rattle.plays.specs.Broken.{BrokenAt}
 use Rattle.plays.specs.Says.{FirstMiss, NeverMisses, LastComplete, TickSays}
 use Rattle.scripts.specs.Reading.{well-made}
@@ -39,6 +40,8 @@ pub record PlaySigned (sheet script : List ℕ) (answer : Played) : Type 0 where
       ↔ ((reading sheet .answer ≡ Admitted) × (well-made (length (tasks-of sheet)) script ≡ true) × BrokenAt (order-in sheet) (tasks-of sheet) (script-for sheet script) j)
   -- where nothing is turned away the script's run, of whatever length, is a run of the set
   pub run-of-set : Playable sheet script → (n : ℕ) → RunOf (policy-of sheet) (tasks-of sheet) (script-run (order-in sheet) (tasks-of sheet) (script-for sheet script) n)
+  -- and it does what the script says: its first frames, its releases with their work, its stretches
+  pub run-of-script : Playable sheet script → (n : ℕ) → OfScript (order-in sheet) (tasks-of sheet) (script-for sheet script) n
   -- it is a miss of task i at tick t exactly where nothing is turned away and that is the first miss of the run, the lower number first
   pub missed : (t i : ℕ) → (answer ≡ Missed t i) ↔ (Playable sheet script × FirstMiss (order-in sheet) (tasks-of sheet) (script-for sheet script) t i)
   -- it is that all is done at tick t exactly where nothing is turned away, no job of the run misses, and the last is complete at t

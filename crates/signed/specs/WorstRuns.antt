@@ -66,6 +66,7 @@ pub record WorstSigned (sheet before : List ℕ) (answer : Worst) (after : List 
       ↔ ((reading sheet .answer ≡ Admitted) × ¬ (verdict (set-of sheet) ≡ holds) × (length (script-due sheet) ≡ n) × (n ≤ length before))
   -- the bytes written are that script, and show the miss
   pub shows : (n : ℕ) → answer ≡ Written n → (take n after ≡ script-due sheet) × ShowsMiss sheet (take n after)
-  -- the bytes behind are as they were, all of them where none was written
+  -- unless bytes are written all of them are as they were, and else those behind
+  pub unchanged : ((n : ℕ) → ¬ (answer ≡ Written n)) → after ≡ before
   pub same-length : length after ≡ length before
   pub same-behind : drop (bytes-said answer) after ≡ drop (bytes-said answer) before

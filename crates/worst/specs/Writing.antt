@@ -44,8 +44,10 @@ writing-by checks policy tasks =
 unfoldable pub worst-writing : List ℕ → Call Refusal ℕ Worst
 worst-writing s = writing-by (sheet-checks s) (policy-of s) (tasks-of s)
 
+-- what the call answers
 unfoldable pub worst-answer : List ℕ → List ℕ → Worst
 worst-answer s room = answered Room TurnedAway (worst-writing s) room
 
+-- what the lent bytes hold afterwards
 unfoldable pub worst-left : List ℕ → List ℕ → List ℕ
 worst-left s room = left-after Room (worst-writing s) room
