@@ -23,10 +23,9 @@ use Rattle.analysis.proofs.Numbering.{place-back}
 use Rattle.plays.specs.Script.{Script, entry-of}
 use Rattle.plays.specs.ScriptRun.{by-place, work-of, lock-of, released-at, pending-lock, stretch-by, new-stretch, choice, script-state, script-run}
 use Rattle.plays.specs.Play.{script-seen}
-use Rattle.plays.specs.WorstScript.{worst-lock, role-of-task, worst-firsts, worst-script}
+use Rattle.plays.specs.WorstScript.{worst-lock, role-of-task, worst-firsts, worst-script, SameRun}
 use Rattle.plays.proofs.ScriptLanes.{by-place-length, by-place-at, place-found, number-found}
 use Rattle.plays.proofs.ScriptLegal.{stretch-under-way, stretch-idle, stretch-starts}
-use Rattle.plays.specs.Says.{SameRun}
 use Rattle.plays.proofs.SameStates.{SameState, picked-in, same-release, same-pick, same-step}
 use Rattle.plays.proofs.WorstEntries.{row-entry, release-of-task, lock-of-task, worst-entry-of, worst-entry-none}
 use Rattle.plays.proofs.WorstLanes.{blocker-pends}

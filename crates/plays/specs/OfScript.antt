@@ -21,26 +21,27 @@ abbrev pub OldestReleased : List Job → ℕ → Type 0
 OldestReleased js r = (us vs : List Job) × (k w : ℕ) × (oldest-left us ≡ 0) × (js ≡ us ++ (job r k (suc w) ∷ vs))
 
 module _ (order : List ℕ) (tasks : List Task) (sc : Script) (n : ℕ) where
-  abbrev run : Run
-  run = script-run order tasks sc n
+  -- the run of n ticks
+  abbrev pub its-run : Run
+  its-run = script-run order tasks sc n
 
-  -- the state of the run of n ticks, with the releases of tick u seen
+  -- its state with the releases of tick u seen
   abbrev pub seen-in : ℕ → State
-  seen-in u = seen-at (by-place order tasks) run u
+  seen-in u = seen-at (by-place order tasks) its-run u
 
-  -- the place whose job has tick u of it, none where the tick is idle
+  -- the place whose job has tick u, none where the tick is idle
   abbrev pub has-tick : ℕ → Option ℕ
   has-tick u = pick (by-place order tasks) (seen-in u)
 
-  -- The run of n ticks does what the script says.
+  -- It does what the script says.
   pub record OfScript : Type 0 where
     -- the jobs of a task begin with its first frame
-    pub firsts : (p : ℕ) → script-run order tasks sc n .first-frame p ≡ getD (sc .firsts) (number-at order p) 0
+    pub firsts : (p : ℕ) → its-run .first-frame p ≡ getD (sc .firsts) (number-at order p) 0
     -- at each tick the jobs of that tick's entries are released, each with its entry's work, and no others
-    pub releases : (t p w : ℕ) → (script-run order tasks sc n .input t .release-of p ≡ some w) ↔ ((e : Entry) × EntryAt sc (number-at order p) t e × (e .work ≡ w))
+    pub releases : (t p w : ℕ) → (its-run .input t .release-of p ≡ some w) ↔ ((e : Entry) × EntryAt sc (number-at order p) t e × (e .work ≡ w))
     -- every pick of a job while no stretch is under way starts one of its entry's lock; a lock of 0 or 1 starts none
     pub stretches : (t p r : ℕ) (e : Entry) → seen-in t .to-come ≡ 0 → has-tick t ≡ some p → OldestReleased (seen-in t .lanes p .jobs) r
-        → EntryAt sc (number-at order p) r e → script-run order tasks sc n .input t .stretch ≡ stretch-by (e .lock)
+        → EntryAt sc (number-at order p) r e → its-run .input t .stretch ≡ stretch-by (e .lock)
     -- no stretch starts while one is under way, or with an idle tick
-    pub none-under-way : (t m : ℕ) → seen-in t .to-come ≡ suc m → script-run order tasks sc n .input t .stretch ≡ 0
-    pub none-idle : (t : ℕ) → has-tick t ≡ none → script-run order tasks sc n .input t .stretch ≡ 0
+    pub none-under-way : (t m : ℕ) → seen-in t .to-come ≡ suc m → its-run .input t .stretch ≡ 0
+    pub none-idle : (t : ℕ) → has-tick t ≡ none → its-run .input t .stretch ≡ 0

@@ -6,7 +6,7 @@ use mathlib.Core.Path.{_≡_}
 use Prim.Native.Nat.{ℕ, suc, _+_, _≤_, _<_}
 use lib.ListN.{length}
 use Rattle.theory.specs.Tasks.{Task, task-at, deadline-of}
-use Rattle.theory.specs.Runs.{Run, stretch-now, Left, Misses}
+use Rattle.theory.specs.Runs.{stretch-now, Left, Misses}
 use Rattle.analysis.specs.Times.{number-at, place-of}
 use Rattle.plays.specs.Script.{Script}
 use Rattle.plays.specs.declared.Entry.{Entry}
@@ -20,13 +20,6 @@ AllReleased es t = (e : Entry) → List·Memᴰ e es → e .tick ≤ t
 -- an entry is released after tick t
 abbrev pub Later : List Entry → ℕ → Type 0
 Later es t = (e : Entry) × List·Memᴰ e es × (t < e .tick)
-
--- two runs of a set, of so many ticks, that are the same: the same first frames, and at each tick the same choices
-pub record SameRun (ticks : ℕ) (set : List Task) (run run′ : Run) : Type 0 where
-  pub same-firsts : (q : ℕ) → q < length set → run .first-frame q ≡ run′ .first-frame q
-  pub same-releases : (t q : ℕ) → t < ticks → q < length set → run .input t .release-of q ≡ run′ .input t .release-of q
-  pub same-stretches : (t : ℕ) → t < ticks → run .input t .stretch ≡ run′ .input t .stretch
-  pub same-ticks : (run .ticks ≡ ticks) × (run′ .ticks ≡ ticks)
 
 module _ (order : List ℕ) (tasks : List Task) (sc : Script) where
   -- in the run of n ticks a job of task i misses at moment t

@@ -1,9 +1,11 @@
--- SCOPE.md, "The worst run written": the script of the worst run of frame k of the task at place p.
+-- SCOPE.md, "The worst run written": the script of the worst run of frame k of the task at place p, and when two runs are the same.
 use mathlib.Core.List.{List, [], _∷_}
 use mathlib.Core.Option.{Option, none, some}
-use Prim.Native.Nat.{ℕ, zero, suc}
+use mathlib.Core.Path.{_≡_}
+use Prim.Native.Nat.{ℕ, zero, suc, _<_}
 use lib.ListN.{length}
 use Rattle.theory.specs.Tasks.{Task, task-at, deadline-of}
+use Rattle.theory.specs.Runs.{Run}
 use Rattle.theory.specs.WorstRun.{Role, above, own, blocks, absent, role, worst-first, worst-release}
 use Rattle.analysis.specs.Times.{place-of}
 use Rattle.analysis.specs.Findings.{in-turn}
@@ -45,3 +47,10 @@ module _ (order : List ℕ) (tasks : List Task) (p k : ℕ) where
         firsts = worst-firsts 0 (length tasks);
         entries = in-turn (λ t. in-turn (worst-row t) 0 (length tasks)) 0 (suc (deadline-of (task-at (by-place order tasks) p) k));
       }
+
+-- two runs of a set, of so many ticks, that are the same: the same first frames, and at each tick the same choices
+pub record SameRun (ticks : ℕ) (set : List Task) (run run′ : Run) : Type 0 where
+  pub same-firsts : (q : ℕ) → q < length set → run .first-frame q ≡ run′ .first-frame q
+  pub same-releases : (t q : ℕ) → t < ticks → q < length set → run .input t .release-of q ≡ run′ .input t .release-of q
+  pub same-stretches : (t : ℕ) → t < ticks → run .input t .stretch ≡ run′ .input t .stretch
+  pub same-ticks : (run .ticks ≡ ticks) × (run′ .ticks ≡ ticks)

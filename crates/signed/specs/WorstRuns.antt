@@ -17,7 +17,7 @@ use Rattle.order.specs.Order.{ordered-set}
 use Rattle.analysis.specs.Times.{number-at}
 use Rattle.analysis.specs.Misses.{miss-in}
 use Rattle.plays.specs.ScriptRun.{script-run}
-use Rattle.plays.specs.Says.{SameRun}
+use Rattle.plays.specs.WorstScript.{SameRun}
 use Rattle.player.specs.Answers.{order-in, script-for, played}
 use Rattle.player.specs.declared.Played.the-variants.{Missed}
 use Rattle.worst.specs.Writing.{worst-bytes, worst-writing}

@@ -28,11 +28,10 @@ use Rattle.plays.specs.Script.{Script}
 use Rattle.plays.specs.Items.{item-checks}
 use Rattle.plays.specs.ScriptRun.{script-run}
 use Rattle.plays.specs.Play.{misser, end-of-play}
-use Rattle.plays.specs.WorstScript.{worst-firsts, worst-script}
+use Rattle.plays.specs.WorstScript.{worst-firsts, worst-script, SameRun}
 use Rattle.plays.specs.declared.Entry.{Entry}
 use Rattle.plays.proofs.Ledgers.{entry-found, entry-is}
 use Rattle.plays.proofs.ScriptFacts.{member-at}
-use Rattle.plays.specs.Says.{SameRun}
 use Rattle.plays.proofs.ScriptLegal.{firsts-fit, firsts-and-entries, entries-in-order, entry-sound}
 use Rattle.plays.proofs.WorstCount.{worst-few}
 use Rattle.plays.proofs.WorstEntries.{worst-entry-is}
