@@ -242,12 +242,7 @@ module _ (sheet bytes : List ℕ) where
     unfolding play-end stops-at order-in script-for
     end-said = ap said end-is-by ∙ says-end
 
-    -- it stops when the sheet's run does
-    pub end-stops : the-end stage-facts .tick ≡ stops-at sheet bytes
-    unfolding stops-at order-in script-for
-    end-stops = ap (λ e. e .tick) end-is-by
-
-    -- and its bytes are those of the trace
+    -- its bytes are those of the trace
     pub bytes-traced : shown-on stage-facts (the-end stage-facts .tick) ≡ tracing sheet bytes .writes
     unfolding tracing stops-at order-in script-for stage-facts
     bytes-traced = ap (λ o. shown-from o tasks sc 0 (end-of-play o tasks sc)) played-order
@@ -260,7 +255,6 @@ module _ (sheet bytes : List ℕ) where
     pub no-refusal : first-refusal (play-checks sheet bytes) ≡ none
     pub stage : Stage bytes cast
     pub ends : said (the-end stage) ≡ play-end sheet bytes
-    pub stops : the-end stage .tick ≡ stops-at sheet bytes
     pub traces : shown-on stage (the-end stage .tick) ≡ tracing sheet bytes .writes
 
   -- a cast and a readiness that are those of the sheet and the script
@@ -277,7 +271,7 @@ module _ (sheet bytes : List ℕ) where
       where
         go : Way sheet bytes → Plays (staged .cast)
         go (turned q f s) = absurd (never-both (sym e ∙ ap (λ x. x .readiness) (is ∙ s)))
-        go (plays f p s) = subst Plays (sym (ap (λ x. x .cast) (is ∙ s))) (record { no-refusal = f; stage = stage-facts sheet bytes p; ends = end-said sheet bytes p; stops = end-stops sheet bytes p; traces = bytes-traced sheet bytes p })
+        go (plays f p s) = subst Plays (sym (ap (λ x. x .cast) (is ∙ s))) (record { no-refusal = f; stage = stage-facts sheet bytes p; ends = end-said sheet bytes p; traces = bytes-traced sheet bytes p })
 
   pub played-turned : {r : PlayRefusal} → first-refusal (play-checks sheet bytes) ≡ some r → TurnedAway r ≡ played sheet bytes
   unfolding played

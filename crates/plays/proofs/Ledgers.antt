@@ -1,4 +1,4 @@
--- Entries in order: each stands once, and the ledger of the releases before an entry is the lane of its task in the script's run.
+-- Entries in order: each is the one found of its task at its tick, and the ledger of the releases before an entry is the lane of its task in the script's run.
 use mathlib.Core.Bool.{Bool, true, false, cond, _&&_}
 use mathlib.Core.List.{List, [], _∷_, _++_, List·Memᴰ, List·Memᴰ·head, List·Memᴰ·tail, List·Memᴰ·cases-cons, List·Memᴰ·not-nil, Memᴰ·append-right}
 use mathlib.Core.Logic.{_⊎_, inl, inr, _↔_, Iff·trans}
@@ -108,10 +108,6 @@ module _ (b : ℕ) (xs : List Entry) (e : Entry) (ys : List Entry) (o : InOrder 
       go a h (inl p) = rw p (le-refl _)
       go a h (inr n) = omega (arith, sooner e d (stands-from (suc (standing e)) ys (h .1) d n) (sym q))
 
-  -- the entries before one in order have no later tick
-  pub none-later : e .task < most-tasks → (d : Entry) → List·Memᴰ d xs → d .tick ≤ e .tick
-  none-later l d m = no-later d e (stands-before b xs (e ∷ ys) o d e m (List·Memᴰ·head refl)) l
-
 -- ---- the entry of a task at a tick
 
 module _ (i t : ℕ) (e : Entry) (es : List Entry) where
@@ -184,10 +180,6 @@ entry-is b (d ∷ es) o e m = go (List·Memᴰ·cases-cons m) (entry-is (suc (st
     go (inl q) later = entry-here _ _ d es (ap (λ x. x .task) (sym q)) (ap (λ x. x .tick) (sym q)) ∙ ap some (sym q)
     go (inr n) later =
         entry-later _ _ d es (λ p q. let z : ⊥ = omega (arith, sooner d e (stands-from (suc (standing d)) es (o .1) e n) p) in absurd z) ∙ later n
-
--- hence an entry with its task and tick stands only once
-pub stands-once : (b : ℕ) (es : List Entry) → InOrder b es → (d e : Entry) → List·Memᴰ d es → List·Memᴰ e es → d .task ≡ e .task → d .tick ≡ e .tick → d ≡ e
-stands-once b es o d e m n p q = Option·some-injective d e (sym (entry-is b es o d m) ∙ rw (p, q) (entry-is b es o e n))
 
 -- ---- the turn of a task: the frame of its next job, and the first tick at which it may be released
 

@@ -132,19 +132,9 @@ module _ (js : List Job) (e : total js ≡ 0) where
   unfolding oldest-left
   nothing-oldest = sym (ap oldest-left (append-nil js)) ∙ oldest-behind js [] e
 
-  -- no job gives a lock
-  pub nothing-lock : (sc : Script) (i : ℕ) → pending-lock sc i js ≡ 0
-  unfolding pending-lock
-  nothing-lock sc i = sym (ap (pending-lock sc i) (append-nil js)) ∙ lock-behind sc i js [] e
-
   -- no job misses
   pub nothing-misses : (task : Task) (t : ℕ) → misses-now task t js ≡ false
   nothing-misses task t = sym (ap (misses-now task t) (append-nil js)) ∙ misses-behind task t js [] e ∙ misses-nothing task t
-
-  -- a tick of work changes nothing
-  pub nothing-served : serve js ≡ js
-  unfolding serve
-  nothing-served = sym (ap serve (append-nil js)) ∙ serve-behind js [] e ∙ append-nil js
 
 -- the last job alone has work left
 module _ (older : List Job) (r k w : ℕ) (e : total older ≡ 0) where
@@ -180,11 +170,6 @@ one-released js r k (suc w) e = one-left js r k w e refl
 pub one-served : (js : List Job) → AtMostOne js → AtMostOne (serve js)
 one-served js (nothing-left e) = nothing-left (omega (arith, serve-total-le js))
 one-served js (one-left older r k w e same) = rw (same, one-left-served older r k w e) (one-released older r k w e)
-
--- the work left is that of the oldest pending job
-pub one-oldest : (js : List Job) → AtMostOne js → oldest-left js ≡ total js
-one-oldest js (nothing-left e) = nothing-oldest js e ∙ sym e
-one-oldest js (one-left older r k w e same) = rw (same, one-left-oldest older r k w e, total-append older r k (suc w)) (omega arith)
 
 one-served-lane : (b : Bool) (l : Lane) → AtMostOne (l .jobs) → AtMostOne (serve-lane b l .jobs)
 unfolding serve-lane

@@ -114,11 +114,7 @@ module _ (order : List ℕ) (tasks : List Task) (sc : Script) where
       pub before-end : (u : ℕ) → u < end-of-play order tasks sc → (misser order tasks sc u ≡ none) × (all-done order tasks sc u ≡ false)
       before-end u h = not-over u (end-is .earlier u (omega arith) h)
 
-      -- no task misses up to any moment before the end
-      pub calm-before : (t : ℕ) → t < end-of-play order tasks sc → Calm order tasks sc t
-      calm-before t h u l = before-end u (omega arith) .0
-
-      -- nor up to the end, if none misses there
+      -- no task misses up to the end, if none misses there
       pub calm-to-end : misser order tasks sc (end-of-play order tasks sc) ≡ none → Calm order tasks sc (end-of-play order tasks sc)
       calm-to-end e u h = go (decLt u (end-of-play order tasks sc))
         where

@@ -12,7 +12,7 @@ use Rattle.sheet.specs.Constants.{most-tasks}
 use Rattle.plays.specs.Script.{Script, no-entry, entry-of}
 use Rattle.plays.specs.declared.Entry.{Entry}
 use Rattle.plays.specs.Items.{standing, item-checks}
-use Rattle.plays.proofs.Ledgers.{InOrder, stands-from, in-order-end, no-later, own-before, none-later, entry-here, entry-later, entry-of-nil, no-entry-of, entry-behind, entry-before, entry-found, entry-is}
+use Rattle.plays.proofs.Ledgers.{InOrder, stands-from, in-order-end, no-later, own-before, entry-here, entry-later, entry-of-nil, no-entry-of, entry-behind, entry-before, entry-found, entry-is}
 use Rattle.plays.proofs.ScriptLegal.{entries-in-order, entry-sound}
 
 -- an entry of a row is one of its members
@@ -77,11 +77,7 @@ module _ (tasks : List Task) (sc : Script) (kept : first-refusal (item-checks ta
         ∙ entry-before i t before (e ∷ []) (entry-later i t e [] ne ∙ entry-of-nil i t)
 
     module _ (few : length tasks ≤ most-tasks) where
-      -- none of the entries before it is at a later tick
-      pub before-no-later : (d : Entry) → List·Memᴰ d (take j (sc .entries)) → d .tick ≤ getD (sc .entries) j no-entry .tick
-      before-no-later = none-later 0 before e behind cut-in-order (omega (arith, entry-in-set))
-
-      -- none of those behind it is at an earlier one
+      -- none of the entries behind it is at an earlier tick
       pub behind-no-sooner : (d : Entry) → List·Memᴰ d (drop (suc j) (sc .entries)) → getD (sc .entries) j no-entry .tick ≤ d .tick
       behind-no-sooner d m =
           let (a, o) = in-order-end 0 before (e ∷ behind) cut-in-order in

@@ -1,13 +1,13 @@
 -- The parts of a script in bits, both ways: what was written is found where the layout says, and what is found writes to the same bits.
 use mathlib.Core.Bool.{Bool}
-use mathlib.Core.List.{List, [], _∷_, _++_, append-assoc, append-nil}
+use mathlib.Core.List.{List, [], _∷_, _++_, append-assoc}
 use mathlib.Core.Path.{_≡_, refl, sym, ap, ap₂, _∙_}
 use Prim.Native.Nat.{ℕ, zero, suc, _+_, _*_, _^_, _≤_, _<_}
 use native.Mathlib.Nat.{suc-mul}
 use native.Mathlib.Omega.{arith}
 use lib.ListN.{length, getD, take, drop, replicate, length-append, length-drop, length-replicate, getD-replicate}
 use lib.Seq.{drop-at, take-add}
-use Rattle.bits.specs.Packed.{digits, field}
+use Rattle.bits.specs.Packed.{field}
 use Rattle.records.specs.Rows.{packed, unpacked, total}
 use Rattle.records.proofs.Packing.{Fit, no-field, one-more, length-packed, unpacked-packed, packed-unpacked, value-taken, number-in}
 use Rattle.plays.specs.Script.{no-entry}
@@ -93,27 +93,3 @@ entries-read (suc m) bits h =
     ap₂ _++_ (entry-read bits (omega arith)) (entries-read m (drop w bits) (rw (length-drop w bits) (omega arith)))
     ∙ sym (take-add w (m * w) bits)
     ∙ ap (λ (k : ℕ). take k bits) widths
-
--- ---- one behind another
-
--- first frames behind first frames
-pub firsts-append : (ks ls : List ℕ) → packed (first-frame-widths (length (ks ++ ls))) (ks ++ ls)
-    ≡ packed (first-frame-widths (length ks)) ks ++ packed (first-frame-widths (length ls)) ls
-unfolding packed
-firsts-append [] ls = refl
-firsts-append (k ∷ ks) ls =
-    ap (λ (bs : List Bool). digits 4 k ++ bs) (firsts-append ks ls)
-    ∙ sym (append-assoc (digits 4 k) (packed (first-frame-widths (length ks)) ks) (packed (first-frame-widths (length ls)) ls))
-
--- entries behind entries
-pub entries-append : (es ds : List Entry) → entries-bits (es ++ ds) ≡ entries-bits es ++ entries-bits ds
-unfolding entries-bits
-entries-append [] ds = refl
-entries-append (e ∷ es) ds =
-    let one = packed entry-widths (entry-numbers e) in
-    ap (λ (bs : List Bool). one ++ bs) (entries-append es ds) ∙ sym (append-assoc one (entries-bits es) (entries-bits ds))
-
--- one entry is its row
-pub one-entry : (e : Entry) → entries-bits (e ∷ []) ≡ packed entry-widths (entry-numbers e)
-unfolding entries-bits
-one-entry e = append-nil (packed entry-widths (entry-numbers e))
