@@ -32,8 +32,8 @@ blocker-code (At b) = b
 blocker-code Nobody = most-tasks
 
 -- the least number of a miss, and how many numbers there are for a blocker
-abbrev pub first-miss : ℕ
-first-miss = 100
+abbrev pub misses-from : ℕ
+misses-from = 100
 
 abbrev pub blockers : ℕ
 blockers = most-tasks + 1
@@ -41,7 +41,7 @@ blockers = most-tasks + 1
 -- one number for each outcome: 0, the refusal's, or one that gives the missed task and its blocker
 abbrev pub code : Outcome → ℕ
 code Holds = 0
-code (Missed p b) = first-miss + blockers * p + blocker-code b
+code (Missed p b) = misses-from + blockers * p + blocker-code b
 code (Refused r) = number-of r
 
 -- the outcome of tasks that were answered so

@@ -83,7 +83,7 @@ impl Finding {
 
 impl Outcome {
     // The least number of a miss.
-    pub const FIRST_MISS: u64 = 100;
+    pub const MISSES_FROM: u64 = 100;
 
     // How many numbers there are for a blocker, none included.
     pub const BLOCKERS: u64 = Sheet::MOST_TASKS as u64 + 1;
@@ -95,7 +95,7 @@ impl Outcome {
         match self {
             Outcome::Holds => 0,
             Outcome::Missed(task, blocker) => {
-                Outcome::FIRST_MISS
+                Outcome::MISSES_FROM
                     + Outcome::BLOCKERS * (task as u64)
                     + blocker_code(blocker) as u64
             }
@@ -182,7 +182,7 @@ pub fn analyse_sheet(bytes: &[u8], times: &mut [u32]) -> Decision
     delivery::deliver(analysis_of_sheet(bytes), times)
 }
 
-// The first miss of an admitted set.
+// The missed frame of an admitted set.
 fn admitted_miss(set: TaskSet, shapes: [Shape; Sheet::TASK_ROOM]) -> Miss
     requires { ⌜ (admission set ≡ Admitted) × (shapes ≡ shapes-of (map task-in (records-of set))) ⌝ }
     ensures { λ r. ⌜ r ≡ miss-in (ordered-set (set .policy) (map task-in (records-of set))) ⌝ }
@@ -190,8 +190,8 @@ fn admitted_miss(set: TaskSet, shapes: [Shape; Sheet::TASK_ROOM]) -> Miss
     misses::first_of(order::in_order(set), shapes)
 }
 
-// Where a set by value misses first; nowhere, if it is turned away.
-pub fn first_miss(set: TaskSet) -> Miss
+// The missed frame of a set by value; none, if it is turned away.
+pub fn missed_frame(set: TaskSet) -> Miss
     ensures { λ r. ⌜ r ≡ set-miss set ⌝ }
 {
     let judged = admission::admit(set);

@@ -1,4 +1,4 @@
-// The first miss of an ordered set: the first task that does not pass, and its first frame without a response time.
+// The missed frame of an ordered set: of the first task that does not pass, the first without a response time.
 ghost use mathlib.Core.Path.{_≡_};
 ghost use Prim.Native.Nat.{_≤_};
 ghost use Rattle.theory.specs.Tasks.{WellFormed};

@@ -27,7 +27,7 @@ use Rattle.order.specs.declared.Ordered.{Ordered}
 use Rattle.scripts.specs.Reading.{entry-count}
 use Rattle.scripts.specs.Judging.{judgement}
 use Rattle.scripts.specs.declared.Judgement.the-variants.{Sound, Malformed, Unsound}
-use Rattle.player.specs.Inside.Staging.{deadlines-in, cast-for, not-staged, staged-by, set-staged, answer-staged, sheet-staged, said}
+use Rattle.player.specs.Inside.Staging.{deadlines-of, cast-for, not-staged, staged-by, set-staged, answer-staged, sheet-staged, said}
 use Rattle.player.specs.declared.PlayRefusal.the-variants.{Base, Malformed as ill-made, Item}
 use Rattle.player.specs.declared.Readiness.the-variants.{Playable}
 use Rattle.player.specs.declared.Staged.{Staged}
@@ -47,27 +47,27 @@ module _ (end : End) where
 -- ---- the deadlines
 
 module _ (records : List Record) (room : length records ≡ most-tasks) (memory : List ℕ) (memory-room : length memory ≡ most-tasks) where
-  many : length (deadlines-in records) ≡ most-tasks
+  many : length (deadlines-of records) ≡ most-tasks
   many = length-map records (λ r. deadline-of (task-in r) 0) ∙ room
 
   pub deadline-laid : (i : ℕ) → i < most-tasks → (d : ℕ) → d ≡ deadline-of (task-in (getD records i no-record)) 0
-      → set (laid-to (deadlines-in records) memory i) i d ≡ laid-to (deadlines-in records) memory (i + 1)
+      → set (laid-to (deadlines-of records) memory i) i d ≡ laid-to (deadlines-of records) memory (i + 1)
   deadline-laid i h d e =
-      rw (e, ← List·getD-map (λ r. deadline-of (task-in r) 0) records i no-record) (laid-more (deadlines-in records) memory i _ (omega (arith, many)) (omega arith))
+      rw (e, ← List·getD-map (λ r. deadline-of (task-in r) 0) records i no-record) (laid-more (deadlines-of records) memory i _ (omega (arith, many)) (omega arith))
 
-  pub deadlines-laid : laid-to (deadlines-in records) memory most-tasks ≡ deadlines-in records
+  pub deadlines-laid : laid-to (deadlines-of records) memory most-tasks ≡ deadlines-of records
   unfolding laid
   deadlines-laid =
-      let all : take most-tasks (deadlines-in records) ≡ deadlines-in records = take-all most-tasks (deadlines-in records) (omega (arith, many)) in
-      laid-all (deadlines-in records) memory most-tasks (ap length all ∙ many)
+      let all : take most-tasks (deadlines-of records) ≡ deadlines-of records = take-all most-tasks (deadlines-of records) (omega (arith, many)) in
+      laid-all (deadlines-of records) memory most-tasks (ap length all ∙ many)
       ∙ ap (λ l. laid l memory) all
-      ∙ ap (λ l. deadlines-in records ++ l) (drop-of-length-le memory {i = length (deadlines-in records)} (omega (arith, many)))
-      ∙ append-nil (deadlines-in records)
+      ∙ ap (λ l. deadlines-of records ++ l) (drop-of-length-le memory {i = length (deadlines-of records)} (omega (arith, many)))
+      ∙ append-nil (deadlines-of records)
 
 -- ---- the cast
 
 pub cast-is : (set : TaskSet) (bytes : List ℕ) (o : Ordered) (entries : ℕ) (deadlines : List ℕ) → o ≡ ordered set → entries ≡ entry-count (o .count) bytes
-    → deadlines ≡ deadlines-in (set .tasks)
+    → deadlines ≡ deadlines-of (set .tasks)
     → _≡_ {A = Cast} (record { count = o .count; entries = entries; order = o .numbers; deadlines = deadlines }) (cast-for set bytes)
 unfolding cast-for ordered
 cast-is set bytes o entries deadlines eo ee ed = rw (ed, ee, eo) refl

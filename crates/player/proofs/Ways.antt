@@ -44,7 +44,7 @@ use Rattle.scripts.specs.declared.Judgement.{Judgement}
 use Rattle.scripts.specs.declared.Judgement.the-variants.{Malformed}
 use Rattle.player.specs.Answers.{order-in, script-for, play-checks, ended, stops-at, play-end, played, tracing, traced, trace-left}
 use Rattle.player.specs.Inside.Course.{Ready, Stage, the-end, shown-on}
-use Rattle.player.specs.Inside.Staging.{deadlines-in, cast-for, not-staged, staged-by, set-staged, answer-staged, sheet-staged, said}
+use Rattle.player.specs.Inside.Staging.{cast-for, not-staged, staged-by, set-staged, answer-staged, sheet-staged, said}
 use Rattle.player.specs.declared.PlayRefusal.{PlayRefusal}
 use Rattle.player.specs.declared.PlayRefusal.the-variants.{Base, Malformed as ill-made, Item}
 use Rattle.player.specs.declared.Readiness.the-variants.{Playable, Unplayable}

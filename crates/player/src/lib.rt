@@ -2,7 +2,7 @@
 ghost use mathlib.Core.Path.{_≡_};
 ghost use Rattle.player.specs.Refusals.{play-number-of};
 ghost use Rattle.player.specs.Answers.{played, traced, trace-left};
-ghost use Rattle.player.specs.Inside.Staging.{deadlines-in, cast-for, not-staged, set-staged, sheet-staged, said};
+ghost use Rattle.player.specs.Inside.Staging.{deadlines-of, cast-for, not-staged, set-staged, sheet-staged, said};
 
 mod course;
 mod state;
@@ -70,7 +70,7 @@ fn not_staged(why: PlayRefusal) -> Staged
 
 // The deadline of each task: every frame has the task's one.
 fn deadlines_of(tasks: [Task; Sheet::TASK_ROOM]) -> [u32; Sheet::TASK_ROOM]
-    ensures { λ r. ⌜ r ≡ deadlines-in tasks ⌝ }
+    ensures { λ r. ⌜ r ≡ deadlines-of tasks ⌝ }
 {
     let mut deadlines = [0u32; Sheet::TASK_ROOM];
     for i in 0..Sheet::TASK_ROOM {

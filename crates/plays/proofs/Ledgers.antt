@@ -369,7 +369,7 @@ module _ (order : List ℕ) (tasks : List Task) (sc : Script) (permutes : Permut
 pub record Sound (tasks : List Task) (c : Ledger) (e : Entry) : Type 0 where
   pub in-set : e .task < length tasks
   pub lock-fits : e .lock ≤ task-at tasks (e .task) .lock
-  pub in-turn : c .behind ≤ standing e
+  pub in-order : c .behind ≤ standing e
   pub apart : c .free-from (e .task) ≤ e .tick
   pub work-fits : e .work ≤ frame (task-at tasks (e .task)) (c .next (e .task))
 
@@ -378,8 +378,8 @@ pub sound-is : (tasks : List Task) (c : Ledger) (e : Entry) → (sound tasks c e
 unfolding sound in-range in-order by-rules
 sound-is tasks c e =
     Iff·trans (is-and (is-and (is-and (ltb-true _ _, lt-ltb _ _) (is-leb _ _)) (is-leb _ _)) (is-and (is-leb _ _) (is-leb _ _))) (
-      λ h. record { in-set = h .0 .0 .0; lock-fits = h .0 .0 .1; in-turn = h .0 .1; apart = h .1 .0; work-fits = h .1 .1 },
-      λ s. (((s .in-set, s .lock-fits), s .in-turn), (s .apart, s .work-fits)),
+      λ h. record { in-set = h .0 .0 .0; lock-fits = h .0 .0 .1; in-order = h .0 .1; apart = h .1 .0; work-fits = h .1 .1 },
+      λ s. (((s .in-set, s .lock-fits), s .in-order), (s .apart, s .work-fits)),
     )
 
 after-behind : (tasks : List Task) (c : Ledger) (e : Entry) → after-entry tasks c e .behind ≡ suc (standing e)
@@ -407,4 +407,4 @@ module _ (tasks : List Task) where
   checked-in-order j c [] h = tt
   checked-in-order j c (e ∷ es) h =
       let (first, rest) = checks-passed j c e es h in
-      (first .in-turn, rw (← after-behind tasks c e) (checked-in-order (suc j) (after-entry tasks c e) es rest))
+      (first .in-order, rw (← after-behind tasks c e) (checked-in-order (suc j) (after-entry tasks c e) es rest))

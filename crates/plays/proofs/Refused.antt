@@ -179,16 +179,16 @@ module _ (order : List ℕ) (tasks : List Task) (sc : Script) (few : length task
             out-of-order us d split (λ before. omega (arith, before-stands d e (omega (arith, last-in us d split)) before))
         go (yes i) (yes l) (yes b) (no n) work = too-soon i (behind-follows xs e i b) (rw (← ledger-is-cut-lane i b .1) (omega arith))
         go (yes i) (yes l) (yes b) (yes a) (no n) = too-much-work i (behind-follows xs e i b) (rw (← ledger-is-cut-lane i b .0) (omega arith))
-        go (yes i) (yes l) (yes b) (yes a) (yes w) = absurd (bad (record { in-set = i; lock-fits = l; in-turn = b; apart = a; work-fits = w }))
+        go (yes i) (yes l) (yes b) (yes a) (yes w) = absurd (bad (record { in-set = i; lock-fits = l; in-order = b; apart = a; work-fits = w }))
 
     -- a sound one breaks nothing
     sound-breaks-nothing : Sound tasks (ledger xs) e → EntryBreaks order tasks sc xs e → ⊥
     sound-breaks-nothing s (no-such-task h) = omega (arith, s .in-set)
     sound-breaks-nothing s (lock-too-long h) = omega (arith, s .lock-fits)
-    sound-breaks-nothing s (out-of-order us d split h) = h (behind-follows xs e (s .in-set) (s .in-turn) us d split)
-    sound-breaks-nothing s (too-soon i f h) = omega (arith, s .apart, ledger-is-cut-lane i (s .in-turn) .1)
+    sound-breaks-nothing s (out-of-order us d split h) = h (behind-follows xs e (s .in-set) (s .in-order) us d split)
+    sound-breaks-nothing s (too-soon i f h) = omega (arith, s .apart, ledger-is-cut-lane i (s .in-order) .1)
     sound-breaks-nothing s (too-much-work i f h) =
-        let fits : e .work ≤ frame (task-at tasks (e .task)) (lane-before order tasks sc xs e .next) = rw (← ledger-is-cut-lane i (s .in-turn) .0) (s .work-fits) in
+        let fits : e .work ≤ frame (task-at tasks (e .task)) (lane-before order tasks sc xs e .next) = rw (← ledger-is-cut-lane i (s .in-order) .0) (s .work-fits) in
         omega arith
 
   -- entries of which none is turned away are in order

@@ -91,7 +91,7 @@ module _ (order : List ℕ) (tasks : List Task) (few : length tasks ≤ most-tas
       record {
         in-set = w .of-task;
         lock-fits = worst-entry-in-range order tasks p k e stands .1;
-        in-turn = stands-behind tasks (first-ledger (sc .firsts)) xs e ys (rw (← split) first-behind);
+        in-order = stands-behind tasks (first-ledger (sc .firsts)) xs e ys (rw (← split) first-behind);
         apart = rw (free-is, same) (rules .apart q (e .work) there now);
         work-fits = rw (next-is, same, ← task-of-number order tasks permutes (e .task) (w .of-task)) (rules .work-fits q (e .work) there now);
       }

@@ -27,7 +27,7 @@ use Rattle.analysis.specs.Times.{number-at}
 use Rattle.analysis.specs.Misses.{miss-by, miss-in}
 use Rattle.analysis.specs.declared.Miss.{Miss}
 use Rattle.analysis.specs.declared.Miss.the-variants.{Nothing, Frame}
-use Rattle.analysis.proofs.FirstMiss.{miss-names}
+use Rattle.analysis.proofs.MissedFrame.{miss-names}
 use Rattle.plays.specs.WorstScript.{worst-script}
 use Rattle.records.proofs.Filling.{length-sealed}
 use Rattle.scripts.specs.Writing.{script-bits, script-of}

@@ -12,7 +12,7 @@ use Rattle.sheet.specs.declared.Written.the-variants.{Bytes}
 use Rattle.sheet.specs.declared.Written.the-variants.{TurnedAway as not-written}
 use Rattle.order.specs.declared.Blocker.{Blocker}
 use Rattle.order.specs.declared.Blocker.the-variants.{At, Nobody}
-use Rattle.analysis.specs.Answers.{first-miss, blockers, refused-decision}
+use Rattle.analysis.specs.Answers.{misses-from, blockers, refused-decision}
 use Rattle.analysis.specs.declared.Outcome.{Outcome}
 use Rattle.analysis.specs.declared.Outcome.the-variants.{Holds, Missed}
 use Rattle.analysis.specs.declared.Decision.{Decision}
@@ -35,7 +35,7 @@ blocker-by b = cond (eqb b 16) Nobody (At b)
 
 -- `burrbeech_check_sheet`: 0 for holds, below 100 a refusal, else 100 + 17p + b
 unfoldable pub said-by : ℕ → Said
-said-by c = cond (eqb c 0) holds (cond (ltb c first-miss) (refused c) (missed ((c - first-miss) / blockers) (blocker-by ((c - first-miss) % blockers))))
+said-by c = cond (eqb c 0) holds (cond (ltb c misses-from) (refused c) (missed ((c - misses-from) / blockers) (blocker-by ((c - misses-from) % blockers))))
 
 -- the numbers that `burrbeech_check_sheet` gives for n tasks
 pub data IsNumber (n : ℕ) : ℕ → Type 0 where

@@ -12,58 +12,58 @@ use Rattle.analysis.specs.Findings.{in-turn}
 use Rattle.plays.specs.WorstScript.{entry-row}
 use Rattle.plays.specs.declared.Entry.{Entry}
 use Rattle.worst.specs.declared.Plan.{Plan}
-use Rattle.worst.specs.Inside.Plans.{work-with, releases-to, SoundTurn, plan-turn, plan-task, SoundPlan, plan-row, tick-row, plan-entries, count-to}
+use Rattle.worst.specs.Inside.Plans.{work-with, releases-to, SoundSeries, plan-series, plan-task, SoundPlan, plan-row, tick-row, plan-entries, count-to}
 use Rattle.worst.proofs.Releases.{tick-of, release-at, Reached, reached-none, reached-later, reached-more, quiet, counted}
 use Rattle.plays.proofs.InTurn.{turn-zero, turn-more, turn-sum}
 
 -- the entry of release c of task i
 abbrev pub release-entry : Plan → ℕ → ℕ → Entry
 release-entry pl i c =
-    record { task = i; tick = tick-of (plan-turn pl i) c; work = work-with (plan-task pl i) (plan-turn pl i .next + c) (plan-turn pl i .lock); lock = plan-turn pl i .lock }
+    record { task = i; tick = tick-of (plan-series pl i) c; work = work-with (plan-task pl i) (plan-series pl i .next + c) (plan-series pl i .lock); lock = plan-series pl i .lock }
 
-module _ (pl : Plan) (i : ℕ) (sound : SoundTurn (pl .end) (plan-task pl i) (plan-turn pl i)) where
+module _ (pl : Plan) (i : ℕ) (sound : SoundSeries (pl .end) (plan-task pl i) (plan-series pl i)) where
   -- the row of a tick: that entry at its tick, and none between
-  pub row-at : (c : ℕ) → plan-row pl (tick-of (plan-turn pl i) c) i ≡ release-entry pl i c ∷ []
+  pub row-at : (c : ℕ) → plan-row pl (tick-of (plan-series pl i) c) i ≡ release-entry pl i c ∷ []
   unfolding plan-row entry-row
-  row-at c = ap (entry-row i (tick-of (plan-turn pl i) c) (plan-turn pl i .lock)) (release-at (plan-task pl i) (plan-turn pl i) (sound .step-positive) c)
+  row-at c = ap (entry-row i (tick-of (plan-series pl i) c) (plan-series pl i .lock)) (release-at (plan-task pl i) (plan-series pl i) (sound .step-positive) c)
 
   -- between two releases of a task its rows are empty
-  pub row-quiet : {u c : ℕ} → Reached (plan-turn pl i) u c → (v : ℕ) → u ≤ v → v < tick-of (plan-turn pl i) c → plan-row pl v i ≡ []
+  pub row-quiet : {u c : ℕ} → Reached (plan-series pl i) u c → (v : ℕ) → u ≤ v → v < tick-of (plan-series pl i) c → plan-row pl v i ≡ []
   unfolding plan-row entry-row
-  row-quiet r v l m = ap (entry-row i v (plan-turn pl i .lock)) (quiet (plan-turn pl i) (sound .step-positive) (plan-task pl i) r v l m)
+  row-quiet r v l m = ap (entry-row i v (plan-series pl i .lock)) (quiet (plan-series pl i) (sound .step-positive) (plan-task pl i) r v l m)
 
   -- the entries of the task before tick u
-  before : (u : ℕ) → (c : ℕ) × Reached (plan-turn pl i) u c × (length (in-turn (λ t. plan-row pl t i) 0 u) ≡ c)
-  before zero = (0, reached-none (plan-turn pl i), ap length (turn-zero (λ t. plan-row pl t i)))
+  before : (u : ℕ) → (c : ℕ) × Reached (plan-series pl i) u c × (length (in-turn (λ t. plan-row pl t i) 0 u) ≡ c)
+  before zero = (0, reached-none (plan-series pl i), ap length (turn-zero (λ t. plan-row pl t i)))
   before (suc u) = go (before u)
     where
       more : length (in-turn (λ t. plan-row pl t i) 0 (suc u)) ≡ length (in-turn (λ t. plan-row pl t i) 0 u) + length (plan-row pl u i)
       more = ap length (turn-more (λ t. plan-row pl t i) u) ∙ length-append (in-turn (λ t. plan-row pl t i) 0 u) (plan-row pl u i)
 
-      go : (c : ℕ) × Reached (plan-turn pl i) u c × (length (in-turn (λ t. plan-row pl t i) 0 u) ≡ c)
-          → (c : ℕ) × Reached (plan-turn pl i) (suc u) c × (length (in-turn (λ t. plan-row pl t i) 0 (suc u)) ≡ c)
-      go (c, r, e) = at (ℕ-discrete (tick-of (plan-turn pl i) c) u)
+      go : (c : ℕ) × Reached (plan-series pl i) u c × (length (in-turn (λ t. plan-row pl t i) 0 u) ≡ c)
+          → (c : ℕ) × Reached (plan-series pl i) (suc u) c × (length (in-turn (λ t. plan-row pl t i) 0 (suc u)) ≡ c)
+      go (c, r, e) = at (ℕ-discrete (tick-of (plan-series pl i) c) u)
         where
-          at : Dec (tick-of (plan-turn pl i) c ≡ u) → (d : ℕ) × Reached (plan-turn pl i) (suc u) d × (length (in-turn (λ t. plan-row pl t i) 0 (suc u)) ≡ d)
-          at (yes s) = (suc c, reached-more (plan-turn pl i) (sound .step-positive) s r, omega (arith, more, ap length (ap (λ (v : ℕ). plan-row pl v i) (sym s) ∙ row-at c)))
+          at : Dec (tick-of (plan-series pl i) c ≡ u) → (d : ℕ) × Reached (plan-series pl i) (suc u) d × (length (in-turn (λ t. plan-row pl t i) 0 (suc u)) ≡ d)
+          at (yes s) = (suc c, reached-more (plan-series pl i) (sound .step-positive) s r, omega (arith, more, ap length (ap (λ (v : ℕ). plan-row pl v i) (sym s) ∙ row-at c)))
           at (no ne) =
-              let later : u < tick-of (plan-turn pl i) c = omega (arith, r .ahead) in
-              (c, reached-later (plan-turn pl i) (omega arith) (omega arith) r, omega (arith, more, ap length (row-quiet r u (omega arith) later)))
+              let later : u < tick-of (plan-series pl i) c = omega (arith, r .ahead) in
+              (c, reached-later (plan-series pl i) (omega arith) (omega arith) r, omega (arith, more, ap length (row-quiet r u (omega arith) later)))
 
-  task-counted : length (in-turn (λ t. plan-row pl t i) 0 (suc (pl .end))) ≡ releases-to (plan-turn pl i .due) (plan-turn pl i .step) (pl .end)
-  task-counted = let (c, r, e) = before (suc (pl .end)) in e ∙ sym (counted (plan-turn pl i) (pl .end) c r)
+  task-counted : length (in-turn (λ t. plan-row pl t i) 0 (suc (pl .end))) ≡ releases-to (plan-series pl i .opens) (plan-series pl i .step) (pl .end)
+  task-counted = let (c, r, e) = before (suc (pl .end)) in e ∙ sym (counted (plan-series pl i) (pl .end) c r)
 
   -- they are few
-  pub few-releases : releases-to (plan-turn pl i .due) (plan-turn pl i .step) (pl .end) ≤ pl .end
+  pub few-releases : releases-to (plan-series pl i .opens) (plan-series pl i .step) (pl .end) ≤ pl .end
   few-releases =
       let (c, r, e) = before (suc (pl .end)) in
-      rw (counted (plan-turn pl i) (pl .end) c r) (go c r (decLe c (pl .end)))
+      rw (counted (plan-series pl i) (pl .end) c r) (go c r (decLe c (pl .end)))
     where
-      go : (c : ℕ) → Reached (plan-turn pl i) (suc (pl .end)) c → Dec (c ≤ pl .end) → c ≤ pl .end
+      go : (c : ℕ) → Reached (plan-series pl i) (suc (pl .end)) c → Dec (c ≤ pl .end) → c ≤ pl .end
       go c r (yes h) = h
       go c r (no h) = let b = r .behind (pl .end) (omega arith) in let z : ⊥ = omega (arith, sound .few) in absurd z
 
-module _ (pl : Plan) (i total r : ℕ) (et : total ≡ count-to pl i) (er : r ≡ releases-to (plan-turn pl i .due) (plan-turn pl i .step) (pl .end)) where
+module _ (pl : Plan) (i total r : ℕ) (et : total ≡ count-to pl i) (er : r ≡ releases-to (plan-series pl i .opens) (plan-series pl i .step) (pl .end)) where
   -- one task more
   pub count-more : total + r ≡ count-to pl (i + 1)
   unfolding count-to

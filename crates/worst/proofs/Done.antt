@@ -55,16 +55,16 @@ module _ (pl : Plan) where
       )
 
   -- nothing is released of task q from there on until its next release
-  module _ (t j : ℕ) (due : ℕ → ℕ) (quiet : (q : ℕ) → q < pl .count → (u : ℕ) → t ≤ u → (q < j → t < u) → u < due q → plan-row pl u q ≡ []) where
+  module _ (t j : ℕ) (opens : ℕ → ℕ) (quiet : (q : ℕ) → q < pl .count → (u : ℕ) → t ≤ u → (q < j → t < u) → u < opens q → plan-row pl u q ≡ []) where
     -- up to a task of the same tick
-    pub skip-here : (i : ℕ) → j ≤ i → i ≤ pl .count → ((q : ℕ) → q < i → t < due q) → done t j ≡ done t i
+    pub skip-here : (i : ℕ) → j ≤ i → i ≤ pl .count → ((q : ℕ) → q < i → t < opens q) → done t j ≡ done t i
     unfolding done
     skip-here i l m h =
         ap (λ (r : List Entry). in-turn (tick-row pl) 0 t ++ r)
         (turn-quiet (plan-row pl t) j i l (λ q a b. quiet q (omega arith) t (le-refl t) (λ c. let z : ⊥ = omega arith in absurd z) (h q b)))
 
     -- up to a task of a later tick
-    pub skip-later : j ≤ pl .count → (v i : ℕ) → t < v → i ≤ pl .count → ((q : ℕ) → q < pl .count → v ≤ due q) → ((q : ℕ) → q < i → v < due q) → done t j ≡ done v i
+    pub skip-later : j ≤ pl .count → (v i : ℕ) → t < v → i ≤ pl .count → ((q : ℕ) → q < pl .count → v ≤ opens q) → ((q : ℕ) → q < i → v < opens q) → done t j ≡ done v i
     unfolding done tick-row
     skip-later k v i l m h later =
         skip-here (pl .count) k (le-refl (pl .count)) (λ q a. let d = h q a in omega arith)
@@ -77,6 +77,6 @@ module _ (pl : Plan) where
         (turn-quiet (plan-row pl v) 0 i zero-le (λ q _ c. let d = later q c in quiet q (omega arith) v (omega arith) (λ _. omega arith) (omega arith)))
 
     -- up to the end
-    pub skip-all : j ≤ pl .count → t ≤ pl .end → ((q : ℕ) → q < pl .count → pl .end < due q) → done t j ≡ plan-entries pl
+    pub skip-all : j ≤ pl .count → t ≤ pl .end → ((q : ℕ) → q < pl .count → pl .end < opens q) → done t j ≡ plan-entries pl
     skip-all k l h =
         skip-later k (suc (pl .end)) 0 (omega arith) zero-le (λ q a. let d = h q a in omega arith) (λ q a. let z : ⊥ = omega arith in absurd z) ∙ done-all

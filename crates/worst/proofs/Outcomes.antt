@@ -81,7 +81,7 @@ module _ (policy : ℕ) (tasks : List Task) (room : List ℕ) where
         let d = done-tells Room TurnedAway call room (done Room TurnedAway call room no-checks (rw bytes-are h)) in
         (sym (says-are (Frame p k) e) ∙ d .0, sym (ap (λ (l : List ℕ). laid l room) bytes-are) ∙ d .1)
 
--- the first miss of an admitted set
+-- the missed frame of an admitted set
 pub set-miss-is : (s : TaskSet) (m : Miss) → admission s ≡ Admitted → m ≡ set-miss s → miss-in (ordered-set (s .policy) (map task-in (records-of s))) ≡ m
 unfolding set-miss miss-of
 set-miss-is s m e em = sym (em ∙ ap (λ (a : Answer). miss-of a (s .policy) (map task-in (records-of s))) e)

@@ -11,8 +11,8 @@ use Rattle.admission.specs.Judged.{shape-of}
 use Rattle.admission.specs.declared.Shape.{Shape}
 use Rattle.analysis.proofs.Shapes.{shape-start}
 use Rattle.worst.specs.declared.Case.{Case}
-use Rattle.worst.specs.declared.Turn.{Turn}
-use Rattle.worst.specs.Inside.Plans.{turn-for, role-by}
+use Rattle.worst.specs.declared.Series.{Series}
+use Rattle.worst.specs.Inside.Plans.{series-for, role-by}
 
 module _ (p b q : ℕ) where
   -- a place before p is above
@@ -38,32 +38,32 @@ module _ (p b q : ℕ) where
       by-absent m = rw (le-ltb q p l, ne-eqb q p n, ne-eqb q b m)
 
 module _ (c : Case) (q : ℕ) (r : Record) where
-  abbrev turn-here : Role → Turn
-  turn-here role = turn-for (task-in r) (c .frame) (c .end) role
+  abbrev series-here : Role → Series
+  series-here role = series-for (task-in r) (c .frame) (c .end) role
 
   abbrev role-here : Role
   role-here = role-by (c .place) (c .blocker) q
 
   -- what is planned for a higher task
-  pub turn-above : (s : Shape) → s ≡ shape-of (task-in r) → q < c .place
-      → _≡_ {A = Turn} (record { due = 1; step = r .period; next = s .start; lock = 0 }) (turn-here role-here)
-  unfolding turn-for task-in
-  turn-above s e h = rw (by-above (c .place) (c .blocker) q h, shape-start s (task-in r) e) refl
+  pub series-above : (s : Shape) → s ≡ shape-of (task-in r) → q < c .place
+      → _≡_ {A = Series} (record { opens = 1; step = r .period; next = s .start; lock = 0 }) (series-here role-here)
+  unfolding series-for task-in
+  series-above s e h = rw (by-above (c .place) (c .blocker) q h, shape-start s (task-in r) e) refl
 
   module _ (l : c .place ≤ q) where
     -- what is planned for the task itself
-    pub turn-own : q ≡ c .place → _≡_ {A = Turn} (record { due = 1; step = c .end + 1; next = c .frame; lock = 0 }) (turn-here role-here)
-    unfolding turn-for
-    turn-own h = rw (by-own (c .place) (c .blocker) q l h, add-one (c .end)) refl
+    pub series-own : q ≡ c .place → _≡_ {A = Series} (record { opens = 1; step = c .end + 1; next = c .frame; lock = 0 }) (series-here role-here)
+    unfolding series-for
+    series-own h = rw (by-own (c .place) (c .blocker) q l h, add-one (c .end)) refl
 
     module _ (n : q ≡ c .place → ⊥) where
       -- what is planned for the blocker
-      pub turn-blocks : (k : ℕ) → k ≡ largest-frame (task-in r) → q ≡ c .blocker
-          → _≡_ {A = Turn} (record { due = 0; step = c .end + 1; next = k; lock = r .lock }) (turn-here role-here)
-      unfolding turn-for task-in
-      turn-blocks k e h = rw (by-blocks (c .place) (c .blocker) q l n h, add-one (c .end), e) refl
+      pub series-blocks : (k : ℕ) → k ≡ largest-frame (task-in r) → q ≡ c .blocker
+          → _≡_ {A = Series} (record { opens = 0; step = c .end + 1; next = k; lock = r .lock }) (series-here role-here)
+      unfolding series-for task-in
+      series-blocks k e h = rw (by-blocks (c .place) (c .blocker) q l n h, add-one (c .end), e) refl
 
       -- what is planned for a task without a release
-      pub turn-absent : (q ≡ c .blocker → ⊥) → _≡_ {A = Turn} (record { due = c .end + 1; step = c .end + 1; next = 0; lock = 0 }) (turn-here role-here)
-      unfolding turn-for
-      turn-absent h = rw (by-absent (c .place) (c .blocker) q l n h, add-one (c .end)) refl
+      pub series-absent : (q ≡ c .blocker → ⊥) → _≡_ {A = Series} (record { opens = c .end + 1; step = c .end + 1; next = 0; lock = 0 }) (series-here role-here)
+      unfolding series-for
+      series-absent h = rw (by-absent (c .place) (c .blocker) q l n h, add-one (c .end)) refl

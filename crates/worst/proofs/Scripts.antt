@@ -39,22 +39,22 @@ use Rattle.analysis.specs.Inside.Steps.{numbers-of}
 use Rattle.analysis.specs.declared.Miss.the-variants.{Frame}
 use Rattle.analysis.proofs.ByNumber.{turn-same}
 use Rattle.analysis.proofs.Entries.{numbers-are, few}
-use Rattle.analysis.proofs.FirstMiss.{miss-names}
+use Rattle.analysis.proofs.MissedFrame.{miss-names}
 use Rattle.analysis.proofs.InUse.{task-is as record-is}
 use Rattle.analysis.proofs.Numbering.{place-in, number-back}
 use Rattle.plays.specs.Script.{Script}
 use Rattle.plays.specs.WorstScript.{entry-row, role-of-task, worst-row, worst-firsts, worst-script}
 use Rattle.plays.specs.declared.Entry.{Entry}
 use Rattle.worst.specs.declared.Case.{Case}
-use Rattle.worst.specs.declared.Turn.{Turn}
+use Rattle.worst.specs.declared.Series.{Series}
 use Rattle.worst.specs.declared.Plan.{Plan}
-use Rattle.worst.specs.Inside.Plans.{turn-for, role-by, turn-release, SoundTurn, plan-turn, plan-task, SoundPlan, plan-row, tick-row, plan-entries, plan-script}
+use Rattle.worst.specs.Inside.Plans.{series-for, role-by, series-release, SoundSeries, plan-series, plan-task, SoundPlan, plan-row, tick-row, plan-entries, plan-script}
 use Rattle.worst.specs.Inside.Steps.{PlanFor}
 use Rattle.worst.proofs.Roles.{by-above, by-own, by-blocks, by-absent}
-use Rattle.worst.proofs.ByRole.{release-same, lock-same, first-same, turn-sound}
+use Rattle.worst.proofs.ByRole.{release-same, lock-same, first-same, series-sound}
 
--- a turn and a script by their parts
-sound-by : {x y : ℕ} {t u : Task} {v w : Turn} → x ≡ y → t ≡ u → v ≡ w → SoundTurn y u w → SoundTurn x t v
+-- a series and a script by their parts
+sound-by : {x y : ℕ} {t u : Task} {v w : Series} → x ≡ y → t ≡ u → v ≡ w → SoundSeries y u w → SoundSeries x t v
 sound-by ex et ev h = rw (ex, et, ev) h
 
 script-by : {fs gs : List ℕ} {es hs : List Entry} → fs ≡ gs → es ≡ hs → _≡_ {A = Script} (record { firsts = fs; entries = es }) (record { firsts = gs; entries = hs })
@@ -195,10 +195,10 @@ module _ (s : TaskSet) (room : length (s .tasks) ≡ most-tasks) (e : admission 
     unfolding role-of-task ordered-set
     role-is = refl
 
-    task-sound : SoundTurn D (task-at tasks i) (turn-for (task-at tasks i) k D r)
+    task-sound : SoundSeries D (task-at tasks i) (series-for (task-at tasks i) k D r)
     task-sound =
         let f = fields i h in
-        turn-sound (task-at tasks i) k D (admitted i h) (few tasks (carried .counted) i) (omega (arith, f .period-fits)) (omega (arith, f .lock-fits)) (end-in .0) (end-in .1) r
+        series-sound (task-at tasks i) k D (admitted i h) (few tasks (carried .counted) i) (omega (arith, f .period-fits)) (omega (arith, f .lock-fits)) (end-in .0) (end-in .1) r
         (λ x. let same : q ≡ p = own-place set p q (sym role-is ∙ x) in
         rw (← task-there-is, same) (names .1 .frame-in))
 
@@ -259,12 +259,12 @@ module _ (s : TaskSet) (room : length (s .tasks) ≡ most-tasks) (e : admission 
         placed-role : role-by p b (q i h) ≡ r i h
         placed-role = ap (λ (x : ℕ). role-by p x (q i h)) code-is ∙ role-same set p (q i h) (omega (arith, q-in i h, carried .few-tasks)) ∙ sym (role-is i h)
 
-        turn-is : plan-turn pl i ≡ turn-for (task-at tasks i) k D (r i h)
-        turn-is =
-            ap (plan-turn pl) (sym number-is)
-            ∙ f .turns-are (q i h) (omega (arith, q-in i h, ap length (ordered-tasks s), ordered-length (s .policy) tasks))
-            ∙ ap (λ (t : Task). turn-for t k d (role-by p b (q i h))) (ap (λ (l : List Task). task-at l (q i h)) (ordered-tasks s) ∙ task-there-is i h)
-            ∙ ap₂ (λ (x : ℕ) (y : Role). turn-for (task-at tasks i) k x y) ed placed-role
+        series-is : plan-series pl i ≡ series-for (task-at tasks i) k D (r i h)
+        series-is =
+            ap (plan-series pl) (sym number-is)
+            ∙ f .series-are (q i h) (omega (arith, q-in i h, ap length (ordered-tasks s), ordered-length (s .policy) tasks))
+            ∙ ap (λ (t : Task). series-for t k d (role-by p b (q i h))) (ap (λ (l : List Task). task-at l (q i h)) (ordered-tasks s) ∙ task-there-is i h)
+            ∙ ap₂ (λ (x : ℕ) (y : Role). series-for (task-at tasks i) k x y) ed placed-role
 
         task-is : plan-task pl i ≡ task-at tasks i
         unfolding records-of
@@ -275,11 +275,11 @@ module _ (s : TaskSet) (room : length (s .tasks) ≡ most-tasks) (e : admission 
         row-same : (t : ℕ) → t ≤ D → plan-row pl t i ≡ worst-row order tasks p k t i
         unfolding plan-row worst-row
         row-same t l =
-            ap₂ (λ (turn : Turn) (task : Task). entry-row i t (turn .lock) (turn-release task turn t)) turn-is task-is
+            ap₂ (λ (series : Series) (task : Task). entry-row i t (series .lock) (series-release task series t)) series-is task-is
             ∙ ap₂ (entry-row i t) (lock-same (task-at tasks i) k D (r i h)) (release-same (task-at tasks i) k D (period-in i h) (r i h) (blocks-locks i h) t l)
 
         first-is : getD (pl .next) i 0 ≡ worst-first (task-at tasks i) k (r i h)
-        first-is = ap (λ (turn : Turn). turn .next) turn-is ∙ first-same (task-at tasks i) k D (r i h)
+        first-is = ap (λ (series : Series). series .next) series-is ∙ first-same (task-at tasks i) k D (r i h)
 
       firsts-same : length (pl .next) ≡ most-tasks → take (pl .count) (pl .next) ≡ worst-firsts order tasks p k 0 n
       firsts-same long =
@@ -309,5 +309,5 @@ module _ (s : TaskSet) (room : length (s .tasks) ≡ most-tasks) (e : admission 
             some-task = omega (arith, count-same, carried .some-task);
             few-tasks = omega (arith, count-same, carried .few-tasks);
             end-fits = omega (arith, end-same, end-in .1);
-            each = λ i l. let h : i < n = omega (arith, count-same) in sound-by end-same (task-is i h) (turn-is i h) (task-sound i h);
+            each = λ i l. let h : i < n = omega (arith, count-same) in sound-by end-same (task-is i h) (series-is i h) (task-sound i h);
           }

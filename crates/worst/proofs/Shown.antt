@@ -23,7 +23,7 @@ use Rattle.analysis.specs.Times.{number-at}
 use Rattle.analysis.proofs.Numbering.{number-in}
 use Rattle.analysis.specs.Misses.{miss-in}
 use Rattle.analysis.specs.declared.Miss.the-variants.{Frame}
-use Rattle.analysis.proofs.FirstMiss.{miss-names}
+use Rattle.analysis.proofs.MissedFrame.{miss-names}
 use Rattle.plays.specs.Script.{Script}
 use Rattle.plays.specs.Items.{item-checks}
 use Rattle.plays.specs.ScriptRun.{script-run}

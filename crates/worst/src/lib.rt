@@ -24,7 +24,7 @@ ghost use Rattle.analysis.specs.declared.Miss.the-variants.{Frame};
 ghost use Rattle.scripts.specs.Format.{entry-widths};
 ghost use Rattle.scripts.specs.Writing.{entry-numbers, entries-bits, script-of, EntryFits};
 ghost use Rattle.worst.specs.Writing.{writing-by, worst-answer, worst-left};
-ghost use Rattle.worst.specs.Inside.Plans.{turn-for, role-by, work-with, releases-to, SoundPlan, plan-entries, plan-script, head-bits};
+ghost use Rattle.worst.specs.Inside.Plans.{series-for, role-by, work-with, releases-to, SoundPlan, plan-entries, plan-script, head-bits};
 ghost use Rattle.worst.specs.Inside.Steps.{Soonest, PlanFor};
 ghost use Rattle.worst.specs.declared.Worst.the-variants.{TurnedAway};
 use admission::Shape;
@@ -55,8 +55,8 @@ struct Case {
 }
 
 // The releases of a task: the tick of the first, how far apart they are, the frame of the first job, and the lock.
-struct Turn {
-    due: u32,
+struct Series {
+    opens: u32,
     step: u32,
     next: u32,
     lock: u32,
@@ -67,7 +67,7 @@ struct Plan {
     count: u32,
     end: u32,
     tasks: [Task; Sheet::TASK_ROOM],
-    due: [u32; Sheet::TASK_ROOM],
+    opens: [u32; Sheet::TASK_ROOM],
     step: [u32; Sheet::TASK_ROOM],
     next: [u32; Sheet::TASK_ROOM],
     lock: [u32; Sheet::TASK_ROOM],
@@ -79,38 +79,38 @@ const BLOCKER_AT: u32 = 0;
 const OTHERS_AT: u32 = BLOCKER_AT + 1;
 
 // The releases of the task at place q: a higher task's from tick 1 on, a period apart, the frame's own job at tick 1, the blocker's before all others.
-fn turn_of(case: Case, q: u32, task: Task, shape: Shape) -> Turn
+fn series_of(case: Case, q: u32, task: Task, shape: Shape) -> Series
     requires { ⌜ (case .end ≤ greatest-time) × (shape ≡ shape-of (task-in task)) ⌝ }
-    ensures { λ r. ⌜ r ≡ turn-for (task-in task) (case .frame) (case .end) (role-by (case .place) (case .blocker) q) ⌝ }
+    ensures { λ r. ⌜ r ≡ series-for (task-in task) (case .frame) (case .end) (role-by (case .place) (case .blocker) q) ⌝ }
 {
     // behind the last tick of the run: there is no further release
     let behind = case.end + 1;
     if q < case.place {
-        return Turn {
-            due: OTHERS_AT,
+        return Series {
+            opens: OTHERS_AT,
             step: task.period,
             next: shape.start,
             lock: 0,
         };
     }
     if q == case.place {
-        return Turn {
-            due: OTHERS_AT,
+        return Series {
+            opens: OTHERS_AT,
             step: behind,
             next: case.frame,
             lock: 0,
         };
     }
     if q == case.blocker {
-        return Turn {
-            due: BLOCKER_AT,
+        return Series {
+            opens: BLOCKER_AT,
             step: behind,
             next: admission::largest_frame(task),
             lock: task.lock,
         };
     }
-    Turn {
-        due: behind,
+    Series {
+        opens: behind,
         step: behind,
         next: 0,
         lock: 0,
@@ -130,7 +130,7 @@ fn plan_for(
     let records = o.tasks;
     let numbers = o.numbers;
     let count = sheet::in_use(o.count as usize, Sheet::TASK_ROOM);
-    let mut due = [0u32; Sheet::TASK_ROOM];
+    let mut opens = [0u32; Sheet::TASK_ROOM];
     let mut step = [0u32; Sheet::TASK_ROOM];
     let mut next = [0u32; Sheet::TASK_ROOM];
     let mut lock = [0u32; Sheet::TASK_ROOM];
@@ -139,17 +139,17 @@ fn plan_for(
         let i = number as usize;
         let task = records[q];
         let shape = shapes[i];
-        let turn = turn_of(case, q as u32, task, shape);
-        due[i] = turn.due;
-        step[i] = turn.step;
-        next[i] = turn.next;
-        lock[i] = turn.lock;
+        let series = series_of(case, q as u32, task, shape);
+        opens[i] = series.opens;
+        step[i] = series.step;
+        next[i] = series.next;
+        lock[i] = series.lock;
     }
     Plan {
         count: count as u32,
         end: case.end,
         tasks,
-        due,
+        opens,
         step,
         next,
         lock,
@@ -157,14 +157,14 @@ fn plan_for(
 }
 
 // How many releases there are up to a tick, from the first on and so far apart.
-fn releases_to(due: u32, step: u32, end: u32) -> u32
+fn releases_to(opens: u32, step: u32, end: u32) -> u32
     requires { ⌜ (1 ≤ step) × (end ≤ greatest-time) ⌝ }
-    ensures { λ r. ⌜ r ≡ releases-to due step end ⌝ }
+    ensures { λ r. ⌜ r ≡ releases-to opens step end ⌝ }
 {
-    if end < due {
+    if end < opens {
         return 0;
     }
-    (end - due) / step + 1
+    (end - opens) / step + 1
 }
 
 // How many entries a plan has.
@@ -172,12 +172,12 @@ fn entry_count(plan: Plan) -> u32
     requires { ⌜ SoundPlan plan ⌝ }
     ensures { λ r. ⌜ r ≡ length (plan-entries plan) ⌝ }
 {
-    let due = plan.due;
+    let opens = plan.opens;
     let step = plan.step;
     let count = plan.count as usize;
     let mut total: u32 = 0;
     for i in 0..count {
-        total += releases_to(due[i], step[i], plan.end);
+        total += releases_to(opens[i], step[i], plan.end);
     }
     total
 }
@@ -217,13 +217,13 @@ fn put_entry(bytes: &mut [u8], at: usize, entry: Entry) -> usize
 }
 
 // The task that is released next, of several the lowest-numbered.
-fn soonest(due: &[u32; Sheet::TASK_ROOM], count: usize) -> usize
-    requires { ⌜ (length (now due) ≡ most-tasks) × (1 ≤ count) × (count ≤ most-tasks) ⌝ }
-    ensures { λ r. ⌜ Soonest (now (due .entry)) count r ⌝ }
+fn soonest(opens: &[u32; Sheet::TASK_ROOM], count: usize) -> usize
+    requires { ⌜ (length (now opens) ≡ most-tasks) × (1 ≤ count) × (count ≤ most-tasks) ⌝ }
+    ensures { λ r. ⌜ Soonest (now (opens .entry)) count r ⌝ }
 {
     let mut first: usize = 0;
     for i in 1..count {
-        if due[i] < due[first] {
+        if opens[i] < opens[first] {
             first = i;
         }
     }
@@ -252,11 +252,11 @@ fn put_entries(bytes: &mut [u8], at: usize, plan: Plan) -> usize
     let locks = plan.lock;
     let last = plan.end;
     let count = plan.count as usize;
-    let mut due = plan.due;
+    let mut opens = plan.opens;
     let mut next = plan.next;
     let mut end = at;
-    let mut i = soonest(&due, count);
-    let mut tick = due[i];
+    let mut i = soonest(&opens, count);
+    let mut tick = opens[i];
     while tick <= last {
         let task = tasks[i];
         let k = next[i];
@@ -268,10 +268,10 @@ fn put_entries(bytes: &mut [u8], at: usize, plan: Plan) -> usize
             lock,
         };
         end = put_entry(bytes, end, entry);
-        due[i] = tick + steps[i];
+        opens[i] = tick + steps[i];
         next[i] = sheet::frame_after(task, k);
-        i = soonest(&due, count);
-        tick = due[i];
+        i = soonest(&opens, count);
+        tick = opens[i];
     }
     end
 }
@@ -322,7 +322,7 @@ fn write_set(set: TaskSet, shapes: [Shape; Sheet::TASK_ROOM], script: &mut [u8])
     requires { ⌜ (admission set ≡ Admitted) × (shapes ≡ shapes-of (map task-in (records-of set))) ⌝ }
     ensures { λ r. ⌜ (r ≡ answered Room TurnedAway (writing-by [] (set .policy) (map task-in (records-of set))) (now (script .entry))) × (now (script .exit) ≡ left-after Room (writing-by [] (set .policy) (map task-in (records-of set))) (now (script .entry))) ⌝ }
 {
-    match analysis::first_miss(set) {
+    match analysis::missed_frame(set) {
         Miss::Nothing => Worst::Holds,
         Miss::Frame(p, k) => write_frame(set, shapes, p, k, script),
     }

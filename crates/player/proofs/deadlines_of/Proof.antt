@@ -6,13 +6,13 @@ use borrow.Author.Needs.{needs}
 use lib.ListN.{length}
 use Rattle.sheet.specs.Constants.{most-tasks}
 use Rattle.lent.proofs.Laid.{laid-to, laid-none}
-use Rattle.player.specs.Inside.Staging.{deadlines-in}
+use Rattle.player.specs.Inside.Staging.{deadlines-of}
 use Rattle.player.proofs.Staging.{deadline-laid, deadlines-laid}
 use Rattle.player.proofs.deadlines_of.Statement.{statement}
 use Rattle.player.proofs.deadlines_of.Tie as tie
 
 abbrev Inv-loop : tie.InvT-loop
-Inv-loop tasks deadlines₀ i₀ deadlines i = (i ≤ most-tasks) × (deadlines ≡ laid-to (deadlines-in tasks) deadlines₀ i)
+Inv-loop tasks deadlines₀ i₀ deadlines i = (i ≤ most-tasks) × (deadlines ≡ laid-to (deadlines-of tasks) deadlines₀ i)
 
 abbrev μ-loop : tie.MeasureT-loop
 μ-loop tasks deadlines₀ i₀ deadlines i = most-tasks - i

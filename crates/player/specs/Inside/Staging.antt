@@ -28,14 +28,14 @@ use Rattle.player.specs.declared.course.Cast.{Cast}
 use Rattle.player.specs.declared.course.End.{End}
 
 -- the deadlines of all records
-abbrev pub deadlines-in : List Record → List ℕ
-deadlines-in records = map (λ r. deadline-of (task-in r) 0) records
+abbrev pub deadlines-of : List Record → List ℕ
+deadlines-of records = map (λ r. deadline-of (task-in r) 0) records
 
 -- the cast of a set that plays a script
 unfoldable pub cast-for : TaskSet → List ℕ → Cast
 cast-for set bytes =
     let count = length (order-of set) in
-    record { count = count; entries = entry-count count bytes; order = ordered set .numbers; deadlines = deadlines-in (set .tasks) }
+    record { count = count; entries = entry-count count bytes; order = ordered set .numbers; deadlines = deadlines-of (set .tasks) }
 
 -- where nobody plays
 abbrev pub no-cast : Cast

@@ -10,10 +10,10 @@ use Rattle.worst.proofs.entry_count.Statement.{statement}
 use Rattle.worst.proofs.entry_count.Tie as tie
 
 abbrev Inv-loop : tie.InvT-loop
-Inv-loop plan due step count total₀ i₀ total i = (i ≤ plan .count) × (plan .count ≤ most-tasks) × (total ≡ count-to plan i)
+Inv-loop plan opens step count total₀ i₀ total i = (i ≤ plan .count) × (plan .count ≤ most-tasks) × (total ≡ count-to plan i)
 
 abbrev μ-loop : tie.MeasureT-loop
-μ-loop plan due step count total₀ i₀ total i = plan .count - i
+μ-loop plan opens step count total₀ i₀ total i = plan .count - i
 
 cast-count : tie.Need-cast-count Inv-loop μ-loop
 cast-count c = search needs

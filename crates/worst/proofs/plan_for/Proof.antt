@@ -1,4 +1,4 @@
--- `plan_for` meets its contract: the turns of the places before place q stand at their numbers.
+-- `plan_for` meets its contract: the series of the places before place q stand at their numbers.
 use mathlib.Core.Path.{_≡_, refl, sym, _∙_}
 use Prim.Native.Nat.{ℕ, _≤_, _<_, _-_}
 use native.Mathlib.Omega.{arith}
@@ -16,11 +16,11 @@ use Rattle.worst.proofs.plan_for.Statement.{statement}
 use Rattle.worst.proofs.plan_for.Tie as tie
 
 abbrev Inv-loop : tie.InvT-loop
-Inv-loop tasks case shapes records numbers count due₀ step₀ next₀ lock₀ q₀ due step next lock q =
-    (q ≤ count) × (count ≤ most-tasks) × (length records ≡ most-tasks) × PlannedTo numbers records case due step next lock q
+Inv-loop tasks case shapes records numbers count opens₀ step₀ next₀ lock₀ q₀ opens step next lock q =
+    (q ≤ count) × (count ≤ most-tasks) × (length records ≡ most-tasks) × PlannedTo numbers records case opens step next lock q
 
 abbrev μ-loop : tie.MeasureT-loop
-μ-loop tasks case shapes records numbers count due₀ step₀ next₀ lock₀ q₀ due step next lock q = count - q
+μ-loop tasks case shapes records numbers count opens₀ step₀ next₀ lock₀ q₀ opens step next lock q = count - q
 
 cast-in-use : tie.Need-cast-in-use Inv-loop μ-loop
 cast-in-use c = search needs
@@ -89,17 +89,17 @@ mul-shape c = record { fits = omega (arith, below (c .before)) }
 array-copy-out-shape : tie.Need-array-copy-out-shape Inv-loop μ-loop
 array-copy-out-shape c = below (c .before)
 
-cast-turn-of : tie.Need-cast-turn-of Inv-loop μ-loop
-cast-turn-of c = search needs
+cast-series-of : tie.Need-cast-series-of Inv-loop μ-loop
+cast-series-of c = search needs
 
-turn-of-requires : tie.Need-turn-of-requires Inv-loop μ-loop
-turn-of-requires c κs = let l = c .before .before in (start l .pre .2, shape-there (o l) _ (start l .pre .0) (room l) (q l) (inside l))
+series-of-requires : tie.Need-series-of-requires Inv-loop μ-loop
+series-of-requires c κs = let l = c .before .before in (start l .pre .2, shape-there (o l) _ (start l .pre .0) (room l) (q l) (inside l))
 
-mul-due : tie.Need-mul-due Inv-loop μ-loop
-mul-due c = record { fits = omega (arith, below (c .before .before .before)) }
+mul-opens : tie.Need-mul-opens Inv-loop μ-loop
+mul-opens c = record { fits = omega (arith, below (c .before .before .before)) }
 
-array-write-due : tie.Need-array-write-due Inv-loop μ-loop
-array-write-due c = below (c .before .before .before)
+array-write-opens : tie.Need-array-write-opens Inv-loop μ-loop
+array-write-opens c = below (c .before .before .before)
 
 mul-step : tie.Need-mul-step Inv-loop μ-loop
 mul-step c = record { fits = omega (arith, below (c .before .before .before)) }
@@ -128,7 +128,7 @@ loop-less c = search needs
 loop-again : tie.Need-loop-again Inv-loop μ-loop
 loop-again c =
     let l = c .before .before .before in
-    (search needs, search needs, room l, planned-more _ _ _ _ _ _ (l .before .loop .inv .3) refl (below l) (apart l) (c .turn-of .ensures))
+    (search needs, search needs, room l, planned-more _ _ _ _ _ _ (l .before .loop .inv .3) refl (below l) (apart l) (c .series-of .ensures))
 
 cast-t39 : tie.Need-cast-t39 Inv-loop μ-loop
 cast-t39 c = search needs
@@ -156,10 +156,10 @@ plan-for-spec =
     array-copy-out-task
     mul-shape
     array-copy-out-shape
-    cast-turn-of
-    turn-of-requires
-    mul-due
-    array-write-due
+    cast-series-of
+    series-of-requires
+    mul-opens
+    array-write-opens
     mul-step
     array-write-step
     mul-next

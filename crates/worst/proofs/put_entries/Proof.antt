@@ -10,25 +10,25 @@ use Rattle.sheet.specs.declared.Task.{Task}
 use Rattle.sheet.proofs.Rounds.{next-is}
 use Rattle.scripts.specs.Writing.{entries-bits}
 use Rattle.worst.specs.declared.Plan.{Plan}
-use Rattle.worst.specs.Inside.Plans.{plan-turn, SoundPlan, plan-entries}
+use Rattle.worst.specs.Inside.Plans.{plan-series, SoundPlan, plan-entries}
 use Rattle.worst.specs.Inside.Steps.{Soonest}
 use Rattle.worst.proofs.Standing.{entry-made}
-use Rattle.worst.proofs.Written.{WrittenTo, Written, written-none, written-same, written-due, written-next, written-all, next-in, entry-fits, entry-room, entry-within, written-more}
+use Rattle.worst.proofs.Written.{WrittenTo, Written, written-none, written-same, written-opens, written-next, written-all, next-in, entry-fits, entry-room, entry-within, written-more}
 use borrow.Author.Needs.{needs}
 use Rattle.worst.proofs.put_entries.Statement.{statement}
 use Rattle.worst.proofs.put_entries.Tie as tie
 
 -- the plan, from its parts
 abbrev plan-of : List Task → List ℕ → List ℕ → ℕ → ℕ → List ℕ → List ℕ → Plan
-plan-of tasks steps locks last count due next = record { count = count; end = last; tasks = tasks; due = due; step = steps; next = next; lock = locks }
+plan-of tasks steps locks last count opens next = record { count = count; end = last; tasks = tasks; opens = opens; step = steps; next = next; lock = locks }
 
 abbrev Inv-loop : tie.InvT-loop
-Inv-loop bytes₀ at tasks steps locks last count due₀ next₀ end₀ i₀ tick₀ bytes due next end i tick =
-    Written (plan-of tasks steps locks last count due₀ next₀) bytes₀ at bytes due next end × Soonest due count i × (tick ≡ getD due i 0)
+Inv-loop bytes₀ at tasks steps locks last count opens₀ next₀ end₀ i₀ tick₀ bytes opens next end i tick =
+    Written (plan-of tasks steps locks last count opens₀ next₀) bytes₀ at bytes opens next end × Soonest opens count i × (tick ≡ getD opens i 0)
 
 abbrev μ-loop : tie.MeasureT-loop
-μ-loop bytes₀ at tasks steps locks last count due₀ next₀ end₀ i₀ tick₀ bytes due next end i tick =
-    at + length (entries-bits (plan-entries (plan-of tasks steps locks last count due₀ next₀))) - end
+μ-loop bytes₀ at tasks steps locks last count opens₀ next₀ end₀ i₀ tick₀ bytes opens next end i tick =
+    at + length (entries-bits (plan-entries (plan-of tasks steps locks last count opens₀ next₀))) - end
 
 cast-count : tie.Need-cast-count Inv-loop μ-loop
 cast-count c = search needs
@@ -57,8 +57,8 @@ module _ (c : tie.In-loop Inv-loop μ-loop) where
   abbrev sound : SoundPlan plan
   sound = start .pre .0
 
-  abbrev due : List ℕ
-  due = c .before .loop .due
+  abbrev opens : List ℕ
+  opens = c .before .loop .opens
 
   abbrev next : List ℕ
   next = c .before .loop .next
@@ -72,10 +72,10 @@ module _ (c : tie.In-loop Inv-loop μ-loop) where
   below : i < most-tasks
   below = omega (arith, inside, sound .few-tasks)
 
-  tick-is : c .before .loop .tick ≡ getD due i 0
+  tick-is : c .before .loop .tick ≡ getD opens i 0
   tick-is = c .before .loop .inv .2
 
-  so-far : WrittenTo plan (now (start .args .bytes)) (start .args .at) (c .before .loop .bytes) due next (c .before .loop .end) (getD due i 0) i
+  so-far : WrittenTo plan (now (start .args .bytes)) (start .args .at) (c .before .loop .bytes) opens next (c .before .loop .end) (getD opens i 0) i
   so-far = written-next plan sound _ _ (c .before .loop .inv .0) (c .before .loop .inv .1) (omega (arith, tick-is, c .loop-test .taken))
 
 mul-task : tie.Need-mul-task Inv-loop μ-loop
@@ -96,8 +96,8 @@ mul-lock c = record { fits = omega (arith, below (c .before)) }
 array-read-lock : tie.Need-array-read-lock Inv-loop μ-loop
 array-read-lock c = below (c .before)
 
-cast-due : tie.Need-cast-due Inv-loop μ-loop
-cast-due c = record { fits = omega (arith, below (c .before)) }
+cast-opens : tie.Need-cast-opens Inv-loop μ-loop
+cast-opens c = record { fits = omega (arith, below (c .before)) }
 
 work-requires : tie.Need-work-requires Inv-loop μ-loop
 work-requires c κs = let l = c .before in next-in (plan l) (sound l) _ _ (start l .pre .1) (inside l) (so-far l)
@@ -105,25 +105,25 @@ work-requires c κs = let l = c .before in next-in (plan l) (sound l) _ _ (start
 put-entry-requires : tie.Need-put-entry-requires Inv-loop μ-loop
 put-entry-requires c κs =
     let l = c .before .before .before in
-    let e = entry-made (plan l) (due l) (next l) (i l) _ _ (tick-is l) (c .before .work .ensures) in
+    let e = entry-made (plan l) (opens l) (next l) (i l) _ _ (tick-is l) (c .before .work .ensures) in
     (entry-fits (plan l) (sound l) _ _ (start l .pre .1) (inside l) (so-far l) _ e, entry-room (plan l) (sound l) _ _ (start l .pre .1) (inside l) (so-far l) _ e)
 
-mul-due : tie.Need-mul-due Inv-loop μ-loop
-mul-due c = record { fits = omega (arith, below (c .before .before .before .before .before .before)) }
+mul-opens : tie.Need-mul-opens Inv-loop μ-loop
+mul-opens c = record { fits = omega (arith, below (c .before .before .before .before .before .before)) }
 
-array-read-due : tie.Need-array-read-due Inv-loop μ-loop
-array-read-due c = below (c .before .before .before .before .before .before)
+array-read-opens : tie.Need-array-read-opens Inv-loop μ-loop
+array-read-opens c = below (c .before .before .before .before .before .before)
 
-add-due : tie.Need-add-due Inv-loop μ-loop
-add-due c =
+add-opens : tie.Need-add-opens Inv-loop μ-loop
+add-opens c =
     let l = c .before .before .before .before .before .before in
     record { fits = omega (arith, l .loop-test .taken, sound l .end-fits, sound l .each (i l) (inside l) .step-small) }
 
-mul-due-2 : tie.Need-mul-due-2 Inv-loop μ-loop
-mul-due-2 c = record { fits = omega (arith, below (c .before .before .before .before .before .before)) }
+mul-opens-2 : tie.Need-mul-opens-2 Inv-loop μ-loop
+mul-opens-2 c = record { fits = omega (arith, below (c .before .before .before .before .before .before)) }
 
-array-write-due : tie.Need-array-write-due Inv-loop μ-loop
-array-write-due c = below (c .before .before .before .before .before .before)
+array-write-opens : tie.Need-array-write-opens Inv-loop μ-loop
+array-write-opens c = below (c .before .before .before .before .before .before)
 
 frame-after-requires : tie.Need-frame-after-requires Inv-loop μ-loop
 frame-after-requires c κs = search needs
@@ -137,7 +137,7 @@ array-write-next c = below (c .before .before .before .before .before .before .b
 soonest-requires-2 : tie.Need-soonest-requires-2 Inv-loop μ-loop
 soonest-requires-2 c κs =
     let l = c .before .before .before .before .before .before .before .before in
-    (length-set (due l) (i l) _ ∙ written-due (plan l) (sound l) _ _ (l .before .loop .inv .0), sound l .some-task, sound l .few-tasks)
+    (length-set (opens l) (i l) _ ∙ written-opens (plan l) (sound l) _ _ (l .before .loop .inv .0), sound l .some-task, sound l .few-tasks)
 
 mul-tick-2 : tie.Need-mul-tick-2 Inv-loop μ-loop
 mul-tick-2 c = record { fits = omega (arith, c .soonest2 .ensures .in-count, sound (c .before .before .before .before .before .before .before .before .before) .few-tasks) }
@@ -149,14 +149,14 @@ loop-less : tie.Need-loop-less Inv-loop μ-loop
 loop-less c =
     let l = c .before .before .before .before .before .before .before .before .before in
     let p = c .before .before .before .before .before in
-    entry-within (plan l) (sound l) _ _ (start l .pre .1) (inside l) (so-far l) _ (entry-made (plan l) (due l) (next l) (i l) _ _ (tick-is l) (p .before .before .work .ensures)) (p .put-entry .ensures)
+    entry-within (plan l) (sound l) _ _ (start l .pre .1) (inside l) (so-far l) _ (entry-made (plan l) (opens l) (next l) (i l) _ _ (tick-is l) (p .before .before .work .ensures)) (p .put-entry .ensures)
 
 loop-again : tie.Need-loop-again Inv-loop μ-loop
 loop-again c =
     let l = c .before .before .before .before .before .before .before .before .before in
     let p = c .before .before .before .before .before in (
-      written-more (plan l) (sound l) _ _ (start l .pre .1) (inside l) (so-far l) _ (entry-made (plan l) (due l) (next l) (i l) _ _ (tick-is l) (p .before .before .work .ensures)) (p .put-entry .ensures) _ _ (p .put-entry .kept .0)
-          (ap (λ (x : ℕ). x + plan-turn (plan l) (i l) .step) (tick-is l)) (c .before .before .frame-after .ensures ∙ next-is _ _ (next-in (plan l) (sound l) _ _ (start l .pre .1) (inside l) (so-far l))),
+      written-more (plan l) (sound l) _ _ (start l .pre .1) (inside l) (so-far l) _ (entry-made (plan l) (opens l) (next l) (i l) _ _ (tick-is l) (p .before .before .work .ensures)) (p .put-entry .ensures) _ _ (p .put-entry .kept .0)
+          (ap (λ (x : ℕ). x + plan-series (plan l) (i l) .step) (tick-is l)) (c .before .before .frame-after .ensures ∙ next-is _ _ (next-in (plan l) (sound l) _ _ (start l .pre .1) (inside l) (so-far l))),
       c .soonest2 .ensures,
       refl,
     )
@@ -186,14 +186,14 @@ put-entries-spec =
     array-read-k
     mul-lock
     array-read-lock
-    cast-due
+    cast-opens
     work-requires
     put-entry-requires
-    mul-due
-    array-read-due
-    add-due
-    mul-due-2
-    array-write-due
+    mul-opens
+    array-read-opens
+    add-opens
+    mul-opens-2
+    array-write-opens
     frame-after-requires
     mul-next
     array-write-next

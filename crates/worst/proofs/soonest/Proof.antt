@@ -10,10 +10,10 @@ use Rattle.worst.proofs.soonest.Statement.{statement}
 use Rattle.worst.proofs.soonest.Tie as tie
 
 abbrev Inv-loop : tie.InvT-loop
-Inv-loop due count first₀ i₀ first i = (1 ≤ i) × (i ≤ count) × Soonest due i first
+Inv-loop opens count first₀ i₀ first i = (1 ≤ i) × (i ≤ count) × Soonest opens i first
 
 abbrev μ-loop : tie.MeasureT-loop
-μ-loop due count first₀ i₀ first i = count - i
+μ-loop opens count first₀ i₀ first i = count - i
 
 loop-holds : tie.Need-loop-holds Inv-loop μ-loop
 loop-holds c = (search needs, search needs, soonest-one _)

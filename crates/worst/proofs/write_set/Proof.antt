@@ -5,8 +5,8 @@ use borrow.Author.Needs.{needs}
 use Rattle.worst.proofs.write_set.Statement.{statement}
 use Rattle.worst.proofs.write_set.Tie as tie
 
-first-miss-requires : tie.Need-first-miss-requires
-first-miss-requires c κs = search needs
+missed-frame-requires : tie.Need-missed-frame-requires
+missed-frame-requires c κs = search needs
 
 enum-told : tie.Need-enum-told
 enum-told c = search needs
@@ -18,13 +18,13 @@ write-frame-requires : tie.Need-write-frame-requires
 write-frame-requires c κs =
     let m = c .before .before .before .before in
     let a = m .before .before in
-    (a .pre .0, a .pre .1, set-miss-is _ _ (a .pre .0) (sym (c .before .before .p .given .1) ∙ m .first-miss .ensures))
+    (a .pre .0, a .pre .1, set-miss-is _ _ (a .pre .0) (sym (c .before .before .p .given .1) ∙ m .missed-frame .ensures))
 
 returns : tie.Need-returns
 returns c =
     let m = c .before .before in
     let a = m .before .before in
-    set-holds _ _ _ (set-miss-is _ _ (a .pre .0) (sym (c .enum-told .given .1) ∙ m .first-miss .ensures))
+    set-holds _ _ _ (set-miss-is _ _ (a .pre .0) (sym (c .enum-told .given .1) ∙ m .missed-frame .ensures))
 
 same-length : tie.Need-same-length
 same-length c = search needs
@@ -36,7 +36,7 @@ pub write-set-spec : {M : Type 1} → statement M
 write-set-spec =
     tie.close
     (tie.spec
-    first-miss-requires
+    missed-frame-requires
     enum-told
     enum-known-p
     write-frame-requires

@@ -11,18 +11,18 @@ use Rattle.analysis.specs.Times.{number-at}
 use Rattle.analysis.specs.Inside.Steps.{numbers-of}
 use Rattle.worst.specs.declared.Case.{Case}
 use Rattle.worst.specs.declared.Plan.{Plan}
-use Rattle.worst.specs.Inside.Plans.{turn-for, role-by, plan-turn}
+use Rattle.worst.specs.Inside.Plans.{series-for, role-by, plan-series}
 
 -- the task with the earliest release, of several the lowest-numbered
-pub record Soonest (due : List ℕ) (count i : ℕ) : Type 0 where
+pub record Soonest (opens : List ℕ) (count i : ℕ) : Type 0 where
   pub in-count : i < count
-  pub least : (j : ℕ) → j < count → getD due i 0 ≤ getD due j 0
-  pub lowest : (j : ℕ) → j < i → getD due i 0 < getD due j 0
+  pub least : (j : ℕ) → j < count → getD opens i 0 ≤ getD opens j 0
+  pub lowest : (j : ℕ) → j < i → getD opens i 0 < getD opens j 0
 
--- a plan for an ordered set: at the number of each place stands the turn of its role
+-- a plan for an ordered set: at the number of each place stands the series of its role
 pub record PlanFor (o : Ordered) (tasks : List Record) (c : Case) (pl : Plan) : Type 0 where
   pub count-is : pl .count ≡ length (tasks-in-order o)
   pub end-is : pl .end ≡ c .end
   pub tasks-are : pl .tasks ≡ tasks
-  pub turns-are : (q : ℕ) → q < length (tasks-in-order o)
-      → plan-turn pl (number-at (numbers-of o) q) ≡ turn-for (task-at (tasks-in-order o) q) (c .frame) (c .end) (role-by (c .place) (c .blocker) q)
+  pub series-are : (q : ℕ) → q < length (tasks-in-order o)
+      → plan-series pl (number-at (numbers-of o) q) ≡ series-for (task-at (tasks-in-order o) q) (c .frame) (c .end) (role-by (c .place) (c .blocker) q)

@@ -1,7 +1,7 @@
 -- `Outcome::code` meets its contract.
 use mathlib.Core.Path.{sym, ap, _∙_}
 use Prim.Native.Nat.{ℕ, _+_, _*_}
-use Rattle.analysis.specs.Answers.{first-miss, blockers, code}
+use Rattle.analysis.specs.Answers.{misses-from, blockers, code}
 use borrow.Author.Needs.{needs}
 use Rattle.analysis.proofs.Outcome.code.Statement.{statement}
 use Rattle.analysis.proofs.Outcome.code.Tie as tie
@@ -44,7 +44,7 @@ returns c = search needs
 
 returns-2 : tie.Need-returns-2
 returns-2 c =
-    ap (λ (b : ℕ). first-miss + blockers * c .before .before .self .given .0 .0 + b) (c .blocker-code .ensures)
+    ap (λ (b : ℕ). misses-from + blockers * c .before .before .self .given .0 .0 + b) (c .blocker-code .ensures)
     ∙ ap code (sym (c .before .before .self .given .1))
 
 returns-3 : tie.Need-returns-3

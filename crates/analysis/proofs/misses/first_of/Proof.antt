@@ -10,7 +10,7 @@ use Rattle.sheet.proofs.Records.{mapped-length}
 use Rattle.order.specs.Ordered.{tasks-in-order, blocking-at}
 use Rattle.analysis.specs.declared.Miss.the-variants.{Frame}
 use Rattle.analysis.proofs.Growing.{Walk, walk-starts, Here, here, walk-on}
-use Rattle.analysis.proofs.FirstMiss.{passes-at, without-at, no-miss, first-miss}
+use Rattle.analysis.proofs.MissedFrame.{passes-at, without-at, no-miss, frame-missed}
 use Rattle.analysis.proofs.Passed.{Passed, none-passed, one-passed}
 use borrow.Author.Needs.{needs}
 use Rattle.analysis.proofs.misses.first_of.Statement.{statement}
@@ -98,7 +98,7 @@ returns c =
     let s = c .before .before .before in
     let h = at-place (turn s) in
     ap (Frame (turn s .before .loop .p)) (c .frame-without .ensures (h .tallies) ∙ without-at _ _ _ _ _ (h .tallies-are) (blocked-is s) (h .task-is))
-    ∙ first-miss _ _ (turn s .before .loop .inv .1) (h .in-set) (sym (passes-is s) ∙ not-true _ (c .before .before .if1 .taken))
+    ∙ frame-missed _ _ (turn s .before .loop .inv .1) (h .in-set) (sym (passes-is s) ∙ not-true _ (c .before .before .if1 .taken))
 
 tally-of-requires : tie.Need-tally-of-requires Inv-loop μ-loop
 tally-of-requires c κs = at-place (turn (c .before)) .start-in

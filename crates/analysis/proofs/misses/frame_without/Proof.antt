@@ -13,7 +13,7 @@ use Rattle.analysis.specs.Inside.Response.{response-to}
 use Rattle.analysis.specs.Inside.Steps.{is-there}
 use Rattle.sheet.proofs.Records.{frames-counted, frame-is}
 use Rattle.analysis.proofs.ByPlace.{frame-counts}
-use Rattle.analysis.proofs.FirstMiss.{AllHave, none-looked, one-has, found-without, all-have}
+use Rattle.analysis.proofs.MissedFrame.{AllHave, none-looked, one-has, found-without, all-have}
 use borrow.Author.Needs.{needs}
 use Rattle.analysis.proofs.misses.frame_without.Statement.{statement}
 use Rattle.analysis.proofs.misses.frame_without.Tie as tie

@@ -1,4 +1,4 @@
--- `first_miss` meets its contract.
+-- `missed_frame` meets its contract.
 use mathlib.Core.List.{map}
 use mathlib.Core.Path.{sym, ap, _∙_}
 use Rattle.sheet.specs.Tasks.{task-in, records-of}
@@ -7,8 +7,8 @@ use Rattle.admission.proofs.Answers.{judged-tells}
 use Rattle.analysis.specs.Misses.{miss-of, set-miss}
 use Rattle.analysis.proofs.Entries.{judged-is}
 use borrow.Author.Needs.{needs}
-use Rattle.analysis.proofs.first_miss.Statement.{statement}
-use Rattle.analysis.proofs.first_miss.Tie as tie
+use Rattle.analysis.proofs.missed_frame.Statement.{statement}
+use Rattle.analysis.proofs.missed_frame.Tie as tie
 
 admit-requires : tie.Need-admit-requires
 admit-requires c κs = search needs
@@ -41,7 +41,7 @@ returns-2 c =
     let e = judged-tells _ _ _ _ (j .admit .ensures) (c .enum-told2 .given .1) in
     sym (ap (λ (a : Answer). miss-of a (s .policy) (map task-in (records-of s))) e)
 
-pub first-miss-spec : {M : Type 1} → statement M
-first-miss-spec =
+pub missed-frame-spec : {M : Type 1} → statement M
+missed-frame-spec =
     tie.close
     (tie.spec admit-requires enum-told admitted-miss-requires enum-told-2 returns returns-2)

@@ -1,4 +1,4 @@
--- The first miss of a set: its frame is the first without a response time, and looking at the places from the front finds it.
+-- The missed frame of a set is the first without a response time, and looking at the places from the front finds it.
 use mathlib.Core.Bool.{Bool, true, false, not}
 use mathlib.Core.List.{List}
 use mathlib.Core.Option.{Option, Option·getD}
@@ -41,7 +41,7 @@ first-without-is set p h e =
     in
     rw (first-is 0 (frame-count (task-at set p)) (test-of set p) it) f
 
--- what the first miss of a set names: the first task in priority order that does not pass, and its first frame without a response time
+-- what the missed frame of a set names: the first task in priority order that does not pass, and its first frame without a response time
 pub miss-names : (set : List Task) (p k : ℕ) → ((q : ℕ) → q < length set → 1 ≤ frame-count (task-at set q)) → miss-in set ≡ Frame p k
     → IsMissed set p (blocker set p) × FirstWithout set p k
 unfolding miss-in miss-by
@@ -128,7 +128,7 @@ module _ (set : List Task) where
   unfolding Passed miss-in miss-by
   no-miss p a h = sym (ap (miss-by set) (verdict-holds set .1 (λ q l. a q (omega arith))))
 
-  pub first-miss : (p : ℕ) → Passed set p → p < length set → passes set p ≡ false → Frame p (first-without set p) ≡ miss-in set
+  pub frame-missed : (p : ℕ) → Passed set p → p < length set → passes set p ≡ false → Frame p (first-without set p) ≡ miss-in set
   unfolding Passed miss-in miss-by
-  first-miss p a h e =
+  frame-missed p a h e =
       sym (ap (miss-by set) (verdict-missed set {p = p} {b = blocker set p} .1 (record { in-set = h; fails = e; earlier-pass = a; named = refl })))
