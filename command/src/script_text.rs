@@ -107,7 +107,7 @@ fn first_frames(words: &[&[u8]], tasks: usize) -> Result<Vec<u32>, String> {
                 return Err(format!("{} here: {for_each}, must stand here", counted(frames.len() as u64, "number")));
             }
             let frames = frames.iter().enumerate();
-            frames.map(|(task, word)| field(&format!("first frame of task {task}"), word, MOST_IN_A_DIGIT)).collect()
+            frames.map(|(task, word)| field(&format!("task {task}: first frame"), word, MOST_IN_A_DIGIT)).collect()
         }
         _ => Err(format!("a script starts with {for_each}")),
     }
@@ -192,7 +192,7 @@ task  tick  work  lock
             ("0 0\n", 1, "a script starts with `first-frames`"),
             ("first-frames 0\n", 1, "1 number here"),
             ("first-frames 0 0 0\n", 1, "3 numbers here"),
-            ("first-frames 0 16\n", 1, "first frame of task 1 16 has no room"),
+            ("first-frames 0 16\n", 1, "task 1: first frame 16 has no room"),
             ("first-frames 0 x\n", 1, "is no number"),
             ("first-frames 0 0\n", 2, "there is no line `task"),
             ("first-frames 0 0\ntick task work lock\n", 2, "the column names"),
