@@ -11,7 +11,7 @@ use Rattle.bits.specs.Packed.{Bytes, bits-of, bytes-of, with-field}
 use Rattle.bits.proofs.Laws.{bytes-bits}
 use Rattle.lent.specs.Lent.{laid}
 use Rattle.records.specs.Rows.{packed, unpacked, total}
-use Rattle.records.specs.Faces.{end-of, lawful, row-there, each-fits, ends, row-fits, with-bits, stored-row, row-has-slots, taken-row}
+use Rattle.records.specs.Faces.{end-of, lawful, row-there, each-fits, ends, next-after, row-fits, with-bits, stored-row, row-has-slots, taken-row}
 use Rattle.records.specs.Inside.Steps.{Placed}
 use Rattle.records.specs.declared.Row.{Row}
 use Rattle.records.specs.declared.Row.the-variants.{EndsAt, Untouched}
@@ -33,6 +33,10 @@ module _ (n at : ℕ) (ws vs : List ℕ) where
   pub put-both : row-there n at ws ≡ true → each-fits ws vs ≡ true → row-fits n at ws vs ≡ true
   unfolding row-fits
   put-both e f = ap₂ _&&_ e f
+
+-- an answer that is known tells where the next row goes
+pub next-by : (at : ℕ) (r o known : Row) → r ≡ o → r ≡ known → next-after known at ≡ next-after o at
+next-by at r o known e f = ap (λ (x : Row). next-after x at) (sym f ∙ e)
 
 -- what a row that can be put has
 pub record Puts (n at : ℕ) (ws vs : List ℕ) : Type 0 where

@@ -9,10 +9,8 @@ use lib.ListN.{length, take, drop}
 use lib.Seq.{take-at}
 use Rattle.bits.specs.Packed.{bits-of, with-field}
 use Rattle.records.specs.Rows.{packed, total}
-use Rattle.records.specs.Faces.{end-of, lawful, ends, row-fits, stored-row}
+use Rattle.records.specs.Faces.{end-of, lawful, ends, next-after, row-fits, stored-row}
 use Rattle.records.specs.Inside.Steps.{Placed}
-use Rattle.records.specs.declared.Row.{Row}
-use Rattle.records.specs.declared.Row.the-variants.{EndsAt, Untouched}
 use Rattle.records.proofs.Packing.{Fit, length-packed, fit-length}
 use Rattle.records.proofs.Rows.{as-many, of-fit, there-is}
 use Rattle.records.proofs.Faces.{puts, put-both}
@@ -26,21 +24,16 @@ row-can n at {ws} {vs} e f h =
     put-both n at ws vs (there-is n at ws e ∙ le-leb (at + total ws) (end-of n) (omega arith)) (of-fit f)
 
 -- a row that can be put is placed
-module _ (s : List ℕ) (at : ℕ) (ws vs : List ℕ) (e : row-fits (length s) at ws vs ≡ true) (r : Row) (er : r ≡ ends (row-fits (length s) at ws vs) at ws) where
-  ends-so : r ≡ EndsAt (at + total ws)
-  ends-so = er ∙ ap (λ (b : Bool). ends b at ws) e
-
-  pub row-placed : (t : List ℕ) (next : ℕ) → t ≡ stored-row s at ws vs → r ≡ EndsAt next → Placed s at (packed ws vs) t next
-  row-placed t next et en =
-      let is = ends-so in
-      let end : next ≡ at + total ws = cc in
-      record {
-        placed = ap bits-of (et ∙ stored-is s at ws vs e) ∙ bits-with s at (packed ws vs) (row-room s at ws vs e);
-        behind = end ∙ ap (λ (k : ℕ). at + k) (sym (length-packed ws vs (as-many ws vs (puts (length s) at ws vs e .fits))));
-      }
-
-  pub never-untouched : r ≡ Untouched → ⊥
-  never-untouched u = let is = ends-so in let z : _≡_ {A = ℕ} 0 1 = cc in omega arith
+pub row-placed : (s : List ℕ) (at : ℕ) (ws vs : List ℕ) → row-fits (length s) at ws vs ≡ true → {t : List ℕ} {next : ℕ}
+    → (next ≡ next-after (ends (row-fits (length s) at ws vs) at ws) at) × (t ≡ stored-row s at ws vs) → Placed s at (packed ws vs) t next
+row-placed s at ws vs e h =
+    record {
+      placed = ap bits-of (h .1 ∙ stored-is s at ws vs e) ∙ bits-with s at (packed ws vs) (row-room s at ws vs e);
+      behind =
+          h .0
+          ∙ ap (λ (b : Bool). next-after (ends b at ws) at) e
+          ∙ ap (λ (k : ℕ). at + k) (sym (length-packed ws vs (as-many ws vs (puts (length s) at ws vs e .fits))));
+    }
 
 -- the room behind bits that were put
 pub room-behind : {s t : List ℕ} {at next : ℕ} (f : List Bool) (n : ℕ) → at + length f + n ≤ end-of (length s) → Placed s at f t next → next + n ≤ end-of (length t)

@@ -40,6 +40,11 @@ each-fits (w ∷ ws) (v ∷ vs) = ltb v (2 ^ w) && each-fits ws vs
 abbrev pub ends : Bool → ℕ → List ℕ → Row
 ends done at ws = cond done (EndsAt (at + total ws)) Untouched
 
+-- the position for the next row: behind this one, and where nothing was touched the one handed in
+abbrev pub next-after : Row → ℕ → ℕ
+next-after (EndsAt next) at = next
+next-after Untouched at = at
+
 -- a row can be put: its fields are there, and the numbers fit them
 unfoldable pub row-fits : ℕ → ℕ → List ℕ → List ℕ → Bool
 row-fits n at ws vs = row-there n at ws && each-fits ws vs

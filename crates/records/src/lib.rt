@@ -8,7 +8,7 @@ ghost use Rattle.bits.specs.Faces.{taken};
 ghost use Rattle.lent.specs.Lent.{laid};
 ghost use Rattle.records.specs.Rows.{packed, unpacked, total};
 ghost use Rattle.records.specs.Sealed.{sealed-size, rest-of};
-ghost use Rattle.records.specs.Faces.{end-of, lawful, row-there, each-fits, ends, row-fits, stored-row, row-has-slots, taken-row, width-of, closes, closed};
+ghost use Rattle.records.specs.Faces.{end-of, lawful, row-there, each-fits, ends, next-after, row-fits, stored-row, row-has-slots, taken-row, width-of, closes, closed};
 ghost use Rattle.records.specs.Inside.Steps.{Placed, number-taken};
 use bits::Taken;
 
@@ -110,6 +110,16 @@ pub fn put_row(bytes: &mut [u8], at: usize, widths: &[usize], numbers: &[u32]) -
         return Row::Untouched;
     }
     Row::EndsAt(put_fields(bytes, at, widths, numbers))
+}
+
+// A row is put as by `put_row`; the answer is the position for the next one: behind it, and where nothing was touched the one handed in.
+pub fn append_row(bytes: &mut [u8], at: usize, widths: &[usize], numbers: &[u32]) -> usize
+    ensures { λ r. ⌜ (r ≡ next-after (ends (row-fits (length (now (bytes .entry))) at (now (widths .entry)) (now (numbers .entry))) at (now (widths .entry))) at) × (now (bytes .exit) ≡ stored-row (now (bytes .entry)) at (now (widths .entry)) (now (numbers .entry))) ⌝ }
+{
+    match put_row(bytes, at, widths, numbers) {
+        Row::EndsAt(next) => next,
+        Row::Untouched => at,
+    }
 }
 
 // The number in a field; 0 where there is no such field.

@@ -1,5 +1,4 @@
 // The worst run of a missed set, written as a run script.
-ghost use mathlib.Core.Bool.{true};
 ghost use mathlib.Core.List.{[], map};
 ghost use mathlib.Core.Path.{_≡_};
 ghost use Prim.Native.Nat.{_+_, _≤_, _<_};
@@ -7,7 +6,7 @@ ghost use lib.ListN.{length};
 ghost use Rattle.theory.specs.Tasks.{frame-count};
 ghost use Rattle.lent.specs.Lent.{answered, left-after};
 ghost use Rattle.records.specs.Rows.{packed};
-ghost use Rattle.records.specs.Faces.{end-of, row-fits};
+ghost use Rattle.records.specs.Faces.{end-of};
 ghost use Rattle.records.specs.Inside.Steps.{Placed};
 ghost use Rattle.sheet.specs.Constants.{most-tasks, greatest-time};
 ghost use Rattle.sheet.specs.Tasks.{task-in, records-of};
@@ -31,7 +30,6 @@ use admission::Shape;
 use analysis::Miss;
 use order::Ordered;
 use plays::Entry;
-use records::Row;
 use scripts::Format;
 use sheet::Answer;
 use sheet::Refusal;
@@ -182,17 +180,6 @@ fn entry_count(plan: Plan) -> u32
     total
 }
 
-// A row that fits is put in; the answer is the position behind it.
-fn put(bytes: &mut [u8], at: usize, widths: &[usize], numbers: &[u32]) -> usize
-    requires { ⌜ row-fits (length (now bytes)) at (now widths) (now numbers) ≡ true ⌝ }
-    ensures { λ r. ⌜ Placed (now (bytes .entry)) at (packed (now (widths .entry)) (now (numbers .entry))) (now (bytes .exit)) r ⌝ }
-{
-    match records::put_row(bytes, at, widths, numbers) {
-        Row::EndsAt(next) => next,
-        Row::Untouched => at,
-    }
-}
-
 // First frames and the count of all entries.
 fn put_head(bytes: &mut [u8], plan: Plan, entries: u32) -> usize
     requires { ⌜ SoundPlan plan × (entries ≡ length (plan-entries plan)) × (length (head-bits plan) ≤ end-of (length (now bytes))) ⌝ }
@@ -201,9 +188,9 @@ fn put_head(bytes: &mut [u8], plan: Plan, entries: u32) -> usize
     let count = plan.count as usize;
     let per_task = Format::first_frame_widths();
     let firsts = plan.next;
-    let at = put(bytes, 0, &per_task[..count], &firsts[..count]);
+    let at = records::append_row(bytes, 0, &per_task[..count], &firsts[..count]);
     let widths = Format::count_widths();
-    put(bytes, at, &widths, &[entries])
+    records::append_row(bytes, at, &widths, &[entries])
 }
 
 // The fields of one entry.
@@ -213,7 +200,7 @@ fn put_entry(bytes: &mut [u8], at: usize, entry: Entry) -> usize
 {
     let widths = Format::entry_widths();
     let numbers = scripts::entry_numbers(entry);
-    put(bytes, at, &widths, &numbers)
+    records::append_row(bytes, at, &widths, &numbers)
 }
 
 // The task that is released next, of several the lowest-numbered.

@@ -4,15 +4,13 @@ ghost use mathlib.Core.Bool.{true};
 ghost use mathlib.Core.List.{map};
 ghost use Prim.Native.Nat.{_+_, _≤_};
 ghost use lib.ListN.{length};
-ghost use Rattle.records.specs.Rows.{packed};
-ghost use Rattle.records.specs.Faces.{end-of, row-fits};
+ghost use Rattle.records.specs.Faces.{end-of};
 ghost use Rattle.records.specs.Inside.Steps.{Placed};
 ghost use Rattle.sheet.specs.Tasks.{task-in, records-of};
 ghost use Rattle.sheet.specs.Constants.{most-tasks, most-frames, deadline-monotonic};
 ghost use Rattle.sheet.specs.Admission.{in-range, admission};
 ghost use Rattle.sheet.specs.Writing.{header-bits, task-bits, tasks-bits, sheet-bytes, written, left};
 ghost use Rattle.sheet.specs.declared.Answer.the-variants.{Admitted};
-use records::Row;
 use sheet::Answer;
 use sheet::Refusal;
 use sheet::Sheet;
@@ -20,24 +18,13 @@ use sheet::Task;
 use sheet::TaskSet;
 use sheet::Written;
 
-// A row that fits is put in; the answer is the position behind it.
-fn put(bytes: &mut [u8], at: usize, widths: &[usize], numbers: &[u32]) -> usize
-    requires { ⌜ row-fits (length (now bytes)) at (now widths) (now numbers) ≡ true ⌝ }
-    ensures { λ r. ⌜ Placed (now (bytes .entry)) at (packed (now (widths .entry)) (now (numbers .entry))) (now (bytes .exit)) r ⌝ }
-{
-    match records::put_row(bytes, at, widths, numbers) {
-        Row::EndsAt(next) => next,
-        Row::Untouched => at,
-    }
-}
-
 // Version, policy, task count, spare.
 fn put_header(bytes: &mut [u8], policy: u32, count: u32) -> usize
     requires { ⌜ (policy ≤ deadline-monotonic) × (count ≤ most-tasks) × (length (header-bits policy count) ≤ end-of (length (now bytes))) ⌝ }
     ensures { λ r. ⌜ Placed (now (bytes .entry)) 0 (header-bits policy count) (now (bytes .exit)) r ⌝ }
 {
     let widths = Sheet::header_widths();
-    put(bytes, 0, &widths, &[Sheet::VERSION, policy, count, 0])
+    records::append_row(bytes, 0, &widths, &[Sheet::VERSION, policy, count, 0])
 }
 
 // Period, deadline, lock, frame count, then the frames.
@@ -47,11 +34,11 @@ fn put_task(bytes: &mut [u8], at: usize, task: Task) -> usize
 {
     let widths = Sheet::fixed_widths();
     let fixed = [task.period, task.deadline, task.lock, task.frame_count];
-    let next = put(bytes, at, &widths, &fixed);
+    let next = records::append_row(bytes, at, &widths, &fixed);
     let count = task.frame_count as usize;
     let per_frame = Sheet::frame_widths();
     let frames = task.frames;
-    put(bytes, next, &per_frame[..count], &frames[..count])
+    records::append_row(bytes, next, &per_frame[..count], &frames[..count])
 }
 
 // The task records one after another.

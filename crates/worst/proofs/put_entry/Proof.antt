@@ -1,4 +1,6 @@
 -- `put_entry` puts an entry's row.
+use denote.Ref.{now}
+use Rattle.records.proofs.Putting.{row-placed}
 use Rattle.worst.proofs.Putting.{entry-can, entry-placed}
 use borrow.Author.Needs.{needs}
 use Rattle.worst.proofs.put_entry.Statement.{statement}
@@ -10,18 +12,14 @@ entry-widths-requires c κs = search needs
 entry-numbers-requires : tie.Need-entry-numbers-requires
 entry-numbers-requires c κs = search needs
 
-slice-aggregate-put : tie.Need-slice-aggregate-put
-slice-aggregate-put c = search needs
+slice-aggregate-append-row : tie.Need-slice-aggregate-append-row
+slice-aggregate-append-row c = search needs
 
-slice-aggregate-put-2 : tie.Need-slice-aggregate-put-2
-slice-aggregate-put-2 c = search needs
+slice-aggregate-append-row-2 : tie.Need-slice-aggregate-append-row-2
+slice-aggregate-append-row-2 c = search needs
 
-put-requires : tie.Need-put-requires
-put-requires c κs =
-    let n = c .before .before .before in
-    let w = n .before in
-    let a = w .before .before in
-    entry-can _ _ _ (w .entry-widths .ensures) (n .entry-numbers .ensures) _ _ (a .pre .0) (a .pre .1)
+append-row-requires : tie.Need-append-row-requires
+append-row-requires c κs = search needs
 
 same-length : tie.Need-same-length
 same-length c = search needs
@@ -30,7 +28,10 @@ returns : tie.Need-returns
 returns c =
     let p = c .before .before in
     let n = p .before .before .before .before in
-    entry-placed _ _ _ (n .before .entry-widths .ensures) (n .entry-numbers .ensures) (p .put .ensures)
+    let w = n .before in
+    let a = w .before .before in
+    entry-placed _ _ _ (w .entry-widths .ensures) (n .entry-numbers .ensures)
+    (row-placed (now (a .args .bytes)) _ _ _ (entry-can _ _ _ (w .entry-widths .ensures) (n .entry-numbers .ensures) _ _ (a .pre .0) (a .pre .1)) (p .append-row .ensures))
 
 pub put-entry-spec : {M : Type 1} → statement M
 put-entry-spec =
@@ -38,8 +39,8 @@ put-entry-spec =
     (tie.spec
     entry-widths-requires
     entry-numbers-requires
-    slice-aggregate-put
-    slice-aggregate-put-2
-    put-requires
+    slice-aggregate-append-row
+    slice-aggregate-append-row-2
+    append-row-requires
     same-length
     returns)

@@ -1,9 +1,8 @@
--- `put` puts a row, which fits.
+-- `append_row` takes the answer of `put_row` apart.
 use borrow.Author.Needs.{needs}
-use denote.Ref.{now}
-use Rattle.records.proofs.Putting.{row-placed, never-untouched}
-use Rattle.worst.proofs.put.Statement.{statement}
-use Rattle.worst.proofs.put.Tie as tie
+use Rattle.records.proofs.Faces.{next-by}
+use Rattle.records.proofs.append_row.Statement.{statement}
+use Rattle.records.proofs.append_row.Tie as tie
 
 put-row-requires : tie.Need-put-row-requires
 put-row-requires c κs = search needs
@@ -21,7 +20,7 @@ returns : tie.Need-returns
 returns c =
     let p = c .before .before .before .before .before in
     let a = p .before .before .before .before .before in
-    row-placed _ _ _ _ (a .pre) _ (p .put-row .ensures .0) _ _ (p .put-row .ensures .1) (c .before .next .given .1)
+    (next-by (a .args .at) _ _ _ (p .put-row .ensures .0) (c .before .next .given .1), p .put-row .ensures .1)
 
 same-length-2 : tie.Need-same-length-2
 same-length-2 c = search needs
@@ -30,10 +29,10 @@ returns-2 : tie.Need-returns-2
 returns-2 c =
     let p = c .before .before .before .before in
     let a = p .before .before .before .before .before in
-    absurd (never-untouched (now (a .args .bytes)) (a .args .at) (now (a .args .widths)) (now (a .args .numbers)) (a .pre) _ (p .put-row .ensures .0) (c .enum-told .given .1))
+    (next-by (a .args .at) _ _ _ (p .put-row .ensures .0) (c .enum-told .given .1), p .put-row .ensures .1)
 
-pub put-spec : {M : Type 1} → statement M
-put-spec =
+pub append-row-spec : {M : Type 1} → statement M
+append-row-spec =
     tie.close
     (tie.spec
     put-row-requires
