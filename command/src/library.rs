@@ -29,7 +29,7 @@ const REPORT_ROOM: usize = 2_048;
 const NO_BLOCKER: usize = 16;
 
 /// `burrbeech_check_sheet` numbers misses from here on.
-const FIRST_MISS: usize = 100;
+const MISSES_FROM: usize = 100;
 
 #[derive(Clone, Copy, Debug, PartialEq, Eq)]
 pub struct Refusal {
@@ -127,7 +127,7 @@ fn is_checked(answer: &Result<Analysis, Refusal>, number: u32, times: &[u8]) -> 
     };
     let expected = match verdict {
         Verdict::Holds => 0,
-        Verdict::Missed { task, blocker } => FIRST_MISS + (NO_BLOCKER + 1) * task + blocker.unwrap_or(NO_BLOCKER),
+        Verdict::Missed { task, blocker } => MISSES_FROM + (NO_BLOCKER + 1) * task + blocker.unwrap_or(NO_BLOCKER),
     };
     let bytes: Vec<u8> = slots.iter().flatten().flat_map(|time| time.to_be_bytes()).collect();
     number as usize == expected && times.starts_with(&bytes)

@@ -125,7 +125,7 @@ module _ (s : List ℕ) where
   unfolding worst-writing writing-by
   says-for e = ap (worst-says (policy-of s) (tasks-of s)) e
 
-  -- the set holds exactly where it has no first miss
+  -- the set holds exactly where no frame is missed
   nothing-holds : (v : Verdict) → verdict (set-of s) ≡ v → miss-in (set-of s) ≡ Nothing → verdict (set-of s) ≡ holds
   unfolding miss-in miss-by
   nothing-holds holds q e = q
