@@ -158,8 +158,11 @@ fn once<T>(option: &str, before: Option<T>) -> Result<(), Trouble> {
 fn number(option: &str, word: Option<OsString>) -> Result<u32, Trouble> {
     let Some(word) = word else { return Err(usage(format!("{option} needs a number of ticks"))) };
     let digits = word.to_str().filter(|digits| digits.bytes().all(|byte| byte.is_ascii_digit()));
-    let number = digits.and_then(|digits| digits.parse().ok());
-    number.ok_or_else(|| usage(format!("{option} needs a number of ticks, which {} is not", quoted_if_odd(&word))))
+    match digits.filter(|digits| !digits.is_empty()).map(str::parse) {
+        Some(Ok(number)) => Ok(number),
+        Some(Err(_)) => Err(usage(format!("{option} {} is more than any run has ticks", quoted_if_odd(&word)))),
+        None => Err(usage(format!("{option} needs a number of ticks, which {} is not", quoted_if_odd(&word)))),
+    }
 }
 
 fn request(verb: Verb, given: Given) -> Result<Request, Trouble> {

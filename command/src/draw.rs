@@ -24,6 +24,7 @@ pub struct DrawOptions {
 
 pub fn run(options: &DrawOptions, output: &mut Output) -> Result<Status, Trouble> {
     let DrawOptions { sheet, script, to, .. } = options;
+    in_order(options)?;
     let mut pipes = Pipes::default();
     let sheet_bytes = input::next_sheet(sheet, &mut pipes)?;
     let (course, run_name) = match script {
@@ -62,17 +63,19 @@ fn deliver(options: &DrawOptions, course: &Course, run_name: &str, output: &mut 
     let end = end_words(course);
     let verdict = words::verdict(course.findings.verdict, course.findings.set.tasks.len());
     let shown = shown_words(from, to_tick, course.play.tick);
-    let mut lines = vec![words::policy(course.findings.set.policy), format!("{}: {end}.", capital(&shortened(run_name)))];
+    let mut lines = vec![format!("The sheet, {}: {verdict}.", shortened(&sheet.shown())), words::policy(course.findings.set.policy)];
     lines.extend(missed_words(course));
     lines.extend(also_missed_words(course));
     lines.push(format!("Shown: {shown}."));
-    let (name, title) = (format!("{}: {verdict}", sheet.shown()), format!("{}: {verdict}", shortened(&sheet.shown())));
+    let name = format!("{}: {end}. The sheet, {}: {verdict}", capital(run_name), sheet.shown());
+    let title = format!("{}: {end}", capital(&shortened(run_name)));
     let picture = Picture { course, from, to: to_tick, name, title, lines };
     let inputs: Vec<(&Name, &str)> = [(sheet, "the sheet")].into_iter().chain(script.iter().map(|name| (name, "the script"))).collect();
     let made = Made { not_for_a_terminal: "a picture is nothing to read", of: &inputs };
     made.deliver(picture.svg().as_bytes(), to.as_ref(), output)?;
     let place = to.as_ref().unwrap_or(&Name::StandardOutput).shown();
-    say(&format!("{place}: {run_name}, {shown}: {end}\n"), to.as_ref(), output)
+    let also = also_missed_words(course).map_or(String::new(), |words| format!(". {words}"));
+    say(&format!("{place}: {run_name}, {shown}: {end}{also}\n"), to.as_ref(), output)
 }
 
 /// The tasks that miss beside the one that the play names.
@@ -93,15 +96,22 @@ fn shown_words(from: u32, to: u32, end: u32) -> String {
     }
 }
 
+/// What the arguments alone say of the ticks is looked at before any file, so that it never hangs on the run.
+fn in_order(options: &DrawOptions) -> Result<(), Trouble> {
+    match (options.from_tick.unwrap_or(0), options.to_tick) {
+        (from, Some(to)) if from >= to => Err(Trouble::Usage(format!("--from {from} is not before --to {to}"))),
+        _ => Ok(()),
+    }
+}
+
 /// The ticks that are drawn: those that were asked for, as far as there are any.
 fn range(options: &DrawOptions, end: u32) -> Result<(u32, u32), Trouble> {
     let (from, to) = (options.from_tick.unwrap_or(0), options.to_tick.unwrap_or(end).min(end));
     let usage = |words: String| Err(Trouble::Usage(words));
-    match (options.from_tick, options.to_tick) {
-        (Some(from), _) if end == 0 => usage(format!("--from {from}: no tick is played in this run")),
+    match options.from_tick {
+        Some(from) if end == 0 => usage(format!("--from {from}: no tick is played in this run")),
         _ if end == 0 => Ok((0, 0)),
         _ if from >= end => usage(format!("--from {from} is not before the end of the run, {end}: its ticks are 0 to {}", end - 1)),
-        (_, Some(to)) if from >= to => usage(format!("--from {from} is not before --to {to}")),
         _ => Ok((from, to)),
     }
 }

@@ -63,7 +63,8 @@ fn ruler(from: u32, end: u32, width: usize) -> String {
     for tick in (from..=end).filter(|tick| tick % STEP == 0 || *tick == from) {
         let column = width + (tick - from) as usize;
         if numbers.len() < column {
-            numbers = format!("{numbers:<column$}{tick}");
+            numbers.extend(std::iter::repeat_n(' ', column - numbers.len()));
+            numbers += &tick.to_string();
         }
     }
     let digits: String = (from..=end).map(|tick| (tick % 10).to_string()).collect();

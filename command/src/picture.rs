@@ -11,7 +11,7 @@ pub struct Picture<'a> {
     pub course: &'a Course,
     pub from: u32,
     pub to: u32,
-    /// For readers of the screen, with the whole name of the sheet.
+    /// For readers of the screen, with the whole names.
     pub name: String,
     pub title: String,
     pub lines: Vec<String>,

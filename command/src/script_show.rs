@@ -9,7 +9,7 @@ use crate::play_json;
 use crate::plays::{self, Refused, ScriptRefusal};
 use crate::script::{Entry, Script, MOST_BYTES};
 use crate::script_faults::{self, bytes_words, Part, ScriptFault};
-use crate::script_text::{self, Widths};
+use crate::script_text::{self, Widths, MISSING};
 use crate::set::Set;
 use crate::status::{Status, Trouble};
 use crate::table::MARK;
@@ -77,6 +77,16 @@ fn entry_object(entry: Entry) -> String {
     Object::new().number("task", task).number("tick", tick).number("work", work).number("lock", lock).close()
 }
 
+/// Entries that the count says and the bytes have not: a line that `script compose` refuses, comment or not.
+fn put_missing(script: &Script, output: &mut Output) -> Result<(), Trouble> {
+    let (count, there) = (script.count(), script.entries_there());
+    if there == count {
+        return Ok(());
+    }
+    let words = format!("the count says {}, the bytes have {there}", entries(count));
+    output.put(format!("{MISSING} {}   # {MARK} {words}\n", entries(count - there)).as_bytes())
+}
+
 /// What can be read, with the fault marked. The first line is no comment, so that nobody composes it unawares.
 fn put_refused(refusal: ScriptRefusal, fault: &ScriptFault, bytes: &[u8], set: &Set, output: &mut Output) -> Result<(), Trouble> {
     let tasks = set.tasks.len();
@@ -99,6 +109,7 @@ fn put_refused(refusal: ScriptRefusal, fault: &ScriptFault, bytes: &[u8], set: &
     for (number, entry) in script.entries().enumerate() {
         output.put(format!("{}{}\n", widths.row(entry), mark_item(tasks + number)).as_bytes())?;
     }
+    put_missing(&script, output)?;
     match (script.fill(), fault.of_part(Part::Fill)) {
         (Some(fill), Some(_)) => output.put(format!("# fill bits {fill}{}\n", mark(Part::Fill)).as_bytes()),
         _ => Ok(()),

@@ -7,6 +7,9 @@ use crate::words::{counted, UNITS};
 /// The word before the first frames.
 const FIRST_FRAMES: &str = "first-frames";
 
+/// The word before what a refused script has not.
+pub const MISSING: &str = "missing";
+
 /// The names of the columns, which the text must have in this order.
 const COLUMNS: [&str; 4] = ["task", "tick", "work", "lock"];
 
@@ -115,6 +118,9 @@ fn first_frames(words: &[&[u8]], tasks: usize) -> Result<Vec<u32>, String> {
 
 /// Task, tick, work and lock.
 fn row(words: &[&[u8]]) -> Result<Entry, String> {
+    if words.first().is_some_and(|first| *first == MISSING.as_bytes()) {
+        return Err("this is what `script show` says of entries that a refused script has not: write them, then delete this line".to_string());
+    }
     let [task, tick, work, lock] = words else {
         return Err(format!("{} here: an entry has four, {}", counted(words.len() as u64, "word"), COLUMNS.join(", ")));
     };

@@ -6,6 +6,9 @@ use crate::svg::{arrow, cross, px, Anchor, Svg, INK, MISS, STROKE};
 /// Arrows of a task that are closer than this are strokes.
 const ARROWS: f64 = 9.0;
 
+/// Ticks that are narrower than this would be hidden by a shaft.
+const SHAFTS: f64 = 5.0;
+
 impl Panel<'_> {
     /// The jobs of a task whose releases are shown.
     fn releases(&self, task: usize) -> Vec<&Job> {
@@ -37,12 +40,13 @@ impl Panel<'_> {
             svg.group(&format!("stroke=\"{STROKE}\" stroke-width=\"0.5\""), |svg| svg.path(&(up + &down)));
             return;
         }
-        // where ticks are shares a shaft would hide them
-        let foot = if self.is_dense() { baseline - BOX } else { baseline };
+        let foot = if self.scale < SHAFTS { baseline - BOX } else { baseline };
+        // no further from its moment than a quarter of a tick, where ticks can be seen
+        let aside = if self.is_dense() { 1.25 } else { (self.scale / 4.0).min(1.25) };
         svg.group(&format!("stroke=\"{INK}\" stroke-width=\"1.25\" fill=\"none\""), |svg| {
             // a release to the right and a deadline to the left of its moment, so that both are seen where they meet
-            let up = |job: &&Job| arrow(self.x(job.released) + 1.25, foot, top);
-            let down = |&due: &u32| arrow(self.x(due) - 1.25, top, foot);
+            let up = |job: &&Job| arrow(self.x(job.released) + aside, foot, top);
+            let down = |&due: &u32| arrow(self.x(due) - aside, top, foot);
             svg.path(&releases.iter().map(up).chain(deadlines.iter().map(down)).collect::<String>());
         });
         if set.tasks[task].frames.len() > 1 && self.scale * f64::from(set.tasks[task].period) >= 40.0 {

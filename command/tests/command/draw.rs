@@ -118,6 +118,11 @@ fn a_part_of_a_run() {
     ] {
         assert!(draw(options).failed(3).contains(words), "{options}");
     }
+    // what the arguments contradict hangs on no file
+    for sheet in ["sheets/f.sheet", "sheets/i.sheet", "no-such-sheet"] {
+        let ran = shell(Path::new(ROOT), &format!("\"$0\" draw {sheet} --from 3 --to 2"));
+        assert!(ran.failed(3).contains("--from 3 is not before --to 2"), "{sheet}");
+    }
     // the miss is marked where it is shown
     let g = |options: &str| shell(Path::new(ROOT), &format!("\"$0\" draw sheets/g.sheet {options}"));
     assert!(drawn(&g("--from 4"), 1).contains(">task 0 misses at 5<") && !drawn(&g("--to 4"), 1).contains(">task 0 misses at 5<"));
@@ -197,7 +202,7 @@ fn odd_names_and_files() {
 #[test]
 fn stretches_that_start_anew() {
     let ran = shell(Path::new(ROOT), "\"$0\" draw sheets/f.sheet scripts/f-exactly-4.script");
-    let box_at = |x: u32, ticks: u32| format!("<rect x=\"{x}\" y=\"180\" width=\"{}\" height=\"18\"/>", 40 * ticks);
+    let box_at = |x: u32, ticks: u32| format!("<rect x=\"{x}\" y=\"202\" width=\"{}\" height=\"18\"/>", 40 * ticks);
     assert_eq!(shapes(drawn(&ran, 0), STARTS), [box_at(190, 1), box_at(390, 1)]);
     assert_eq!(shapes(ran.text(), LOCKED), [box_at(190, 3), box_at(390, 2)]);
     let folder = made("draw-anew", "0 20 20 3 7\n", "0", "0 0 7 3\n");
@@ -217,6 +222,7 @@ fn a_second_miss_has_its_own_cross() {
     let words = "Task 2 misses at the same moment, by the script and the ticks.";
     assert!(picture.contains(words) && picture.contains(">task 1 misses at 8, task 2 too<"));
     assert!(picture.contains(">misses at the same moment; the play names the lowest task number<"));
+    assert!(shell(&folder.0, "\"$0\" draw s r -o p").done(1).ends_with(&format!("the end of tick 7. {words}\n")));
     // a dashed line, the cross of task 1, and that of task 2 a lane below
     let marks = shapes(picture, MISS);
     let crosses: Vec<&str> = marks[1..].iter().map(|path| path.split(['M', 'l']).nth(1).unwrap()).collect();
@@ -285,7 +291,7 @@ fn a_run_without_ticks_is_drawn() {
         assert_eq!(ran.done(0), format!("p: the run of r, no tick is played: {end}\n"));
         let picture = std::fs::read_to_string(folder.0.join("p")).unwrap();
         is_plain_svg(&picture);
-        for words in ["Shown: no tick is played.", &format!("The run of r: {end}."), "task 1", "no tick is played"] {
+        for words in ["Shown: no tick is played.", &format!("The run of r: {end}"), "task 1", "no tick is played"] {
             assert!(texts(&picture).contains(&words), "{words}");
         }
         assert_eq!(shell(&folder.0, "\"$0\" draw s r --to 7").out, picture.as_bytes());
@@ -303,9 +309,10 @@ fn long_names_stay_in_the_picture() {
         folder.file(&script, &std::fs::read(shipped_script("g-worst")).unwrap());
         let ran = shell(&folder.0, &format!("\"$0\" draw '{sheet}' '{script}'"));
         let picture = drawn(&ran, 1);
-        assert!(picture.contains(&format!("<title>&quot;{sheet}&quot;: missed, 2 tasks")));
+        assert!(picture.contains(&format!("<title>The run of &quot;{script}&quot;: task 0 misses at 5")));
+        assert!(picture.contains(&format!("The sheet, &quot;{sheet}&quot;: missed, 2 tasks: task 0 misses, blocker 1</title>")));
         let shown: Vec<&str> = texts(picture);
-        for (start, end) in [("&quot;first ", " last.sheet&quot;: missed"), ("The run of &quot;first ", " last.script&quot;: task 0")] {
+        for (start, end) in [("The sheet, &quot;first ", " last.sheet&quot;: missed"), ("The run of &quot;first ", " last.script&quot;: task 0")] {
             let at = shown.iter().position(|text| text.starts_with(start)).expect("a name");
             assert!(shown[at..at + 3].join(" ").contains(end) && shown[at].contains("..."), "{shown:?}");
         }

@@ -1,7 +1,7 @@
 //! `play`: every end of a run, in words, as lanes and as an object.
 use crate::json::{self, number_or_null, Value};
 use crate::running::{run, run_with, shell, shipped_one, shipped_script, Folder, ROOT};
-use crate::runs::{broken, busy_set, kept, seen, two_misses, Seen};
+use crate::runs::{broken, busy_set, kept, made, seen, two_misses, Seen};
 use second::random::Random;
 use second::runs::{Complete, Job};
 use second::scripts::{self, Script};
@@ -54,6 +54,18 @@ fn the_shipped_scripts_word_for_word() {
     assert_eq!(played("--last 11 scripts/two-locks.sheet scripts/two-locks.script").done(0), DONE);
     assert!(played("sheets/f.sheet - < scripts/f-exactly-4.script").done(0).contains("task 0: 1 job, done; it took 4 ticks ("));
     assert!(played("- scripts/g-worst.script < sheets/g.sheet").done(1).contains("The sheet, -: missed"));
+}
+
+/// Every tick of a long run is shown where it is asked for.
+#[test]
+fn lanes_of_a_long_run() {
+    let folder = made("play-long", "0 70000 70000 0 1\n", "0", "0 66000 1 0\n");
+    for last in ["66001", "4294967295"] {
+        let ran = shell(&folder.0, &format!("\"$0\" play s r --last {last}"));
+        let lane = ran.done(0).lines().last().unwrap();
+        assert_eq!((lane.len(), lane.ends_with('x')), ("task 0  ".len() + 66_001, true));
+    }
+    assert!(shell(&folder.0, "\"$0\" play s r --last 4294967296").failed(3).contains("--last 4294967296 is more than any run has ticks"));
 }
 
 #[test]

@@ -102,7 +102,19 @@ fn what_is_wrong_with_the_whole_is_marked() {
     let fill = "# fill bits 0001   # <== fill bits 0001 after the last entry: they must be 0";
     assert_eq!(shown("m", &check_word::sealed(&filled)), [fill]);
     let both = shown("g", &good[..20]);
-    assert!(both.len() == 2 && both[0].starts_with("# length 20 bytes   # <== ") && both[1].starts_with("# check word "), "{both:?}");
+    assert!(both.len() == 3 && both[0].starts_with("# length 20 bytes   # <== ") && both[1].starts_with("# check word "), "{both:?}");
+    assert_eq!(both[2], "missing 1 entry   # <== the count says 2 entries, the bytes have 1");
+}
+
+/// Entries that were cut off are not dropped unawares, even where first line and marks are deleted.
+#[test]
+fn a_cut_script_is_not_composed() {
+    let folder = Folder::new("scripts-cut");
+    folder.file("cut", &std::fs::read(shipped_script("g-worst")).unwrap()[..20]);
+    let line = format!("\"$0\" script show '{0}' cut | sed -e 1d -e 's/ *# <==.*//' > t && \"$0\" script compose '{0}' t -o out", shipped_one("g"));
+    let said = shell(&folder.0, &line).failed(3).to_string();
+    assert!(said.contains("t:9: this is what `script show` says of entries that a refused script has not"), "{said}");
+    assert!(!folder.0.join("out").exists());
 }
 
 #[test]
