@@ -307,7 +307,8 @@ Exit status: 0 written, 2 the sheet or the script is refused, 3 the text is no s
 
 const SCRIPT_SHOW: &str = "Prints the text that `script compose` reads; composed, it gives the same bytes again. Of a refused script it prints what can be read, with
 the fault marked by `<==`; the first line is then `refused` and the number, which no text has. `script compose` takes it when the fault is
-mended and that line and the mark, with what follows it, are deleted.
+mended and that line and the mark, with what follows it, are deleted. Entries that the count says and the bytes have not are a last line
+`missing`, which `script compose` does not take.
 
   --json  prints one object:
   {\"file\":SCRIPT,\"sheet\":SHEET,\"admitted\":true,\"tasks\":COUNT,\"first_frames\":[...],\"entries\":COUNT,
