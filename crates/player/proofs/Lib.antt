@@ -1,5 +1,6 @@
 -- The laws of the player.
 pub mod Picking
+pub mod Soonest
 pub mod Slots
 pub mod Steps
 pub mod Releases

@@ -29,12 +29,13 @@ use Rattle.plays.proofs.OnePending.{Calm, released-alone, oldest-at-most}
 use Rattle.plays.proofs.ScriptLanes.{by-place-length, place-found, number-found}
 use Rattle.plays.specs.Says.{AllReleased}
 use Rattle.plays.proofs.AllDone.{done-is, undone-is}
-use Rattle.player.specs.State.{at-rest, released, picked-by, ticked, late, first-late, misser-in, shown-byte}
+use Rattle.player.specs.State.{at-rest, released, picked-by, ticked, late, first-late, misser-in, looking-ahead, shown-byte}
 use Rattle.player.specs.Shows.{Shows, rests}
 use Rattle.player.specs.Inside.Course.{Ready, InPlay, Seen}
 use Rattle.player.specs.declared.state.Player.{Player}
 use Rattle.player.proofs.Slots.{slot-late}
-use Rattle.player.proofs.Steps.{pick-shows, picked-shows, tick-shows, tick-byte}
+use Rattle.player.proofs.Soonest.{misser-is}
+use Rattle.player.proofs.Steps.{pick-shows, picked-shows, ahead-shows, tick-shows, tick-byte}
 use Rattle.player.proofs.Releases.{Seeing, seeing-none, seeing-more, seeing-all, release-there}
 
 -- a row of zeros is zero at each place, and behind its end
@@ -62,6 +63,7 @@ module _ (order : List ℕ) (tasks : List Task) (sc : Script) where
               slots = λ i h. rests refl (zeros i);
               coming = refl;
               holder = λ h. let z : ⊥ = omega arith in absurd z;
+              no-sooner = λ i h l. let z : ⊥ = omega (arith, zeros i) in absurd z;
               left-room = length-replicate {A = ℕ} most-tasks 0;
               due-room = length-replicate {A = ℕ} most-tasks 0;
               lock-room = length-replicate {A = ℕ} most-tasks 0;
@@ -81,11 +83,22 @@ module _ (order : List ℕ) (tasks : List Task) (sc : Script) where
       → misser-in player (length tasks) t ≡ Option·getD (misser order tasks sc t) most-tasks
   unfolding first-late misser task-misses
   finds-misser t player shows =
-      ap (λ o. Option·getD o most-tasks)
+      misser-is player (length tasks) t (shows .no-sooner)
+      ∙ ap (λ o. Option·getD o most-tasks)
       (first-same 0 (length tasks) (λ i. late (getD (player .left) i 0) (getD (player .due) i 0) t) (task-misses order tasks sc t)
       (λ i h. sym (slot-late t (shows .slots i (omega arith)))))
 
   module _ (ready : Ready order tasks sc) where
+    -- looking ahead changes nothing of what is shown
+    pub ahead-in-play : (t j : ℕ) (player : Player) → InPlay order tasks sc t j player → InPlay order tasks sc t j (looking-ahead player t)
+    ahead-in-play t j player at =
+        record {
+          shows = ahead-shows order tasks sc (ready .permutes) (ready .few) (script-state order tasks sc t) player t (at .shows);
+          released-before = at .released-before;
+          rest-from = at .rest-from;
+          within = at .within;
+        }
+
     abbrev by : List Task
     by = by-place order tasks
 

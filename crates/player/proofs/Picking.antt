@@ -50,7 +50,7 @@ pick-goes-on order s h = go (s .«to_come») refl h
 
 -- none is: the first with work left
 pub pick-anew : (order : List ℕ) (s : Player) (i : ℕ) → s .«to_come» ≤ 0 → i ≡ first-pending (s .left) order
-    → _≡_ {A = Player} (record { left = s .left; due = s .due; lock = s .lock; picked = i; «to_come» = 0 }) (picked-by order s)
+    → _≡_ {A = Player} (record { left = s .left; due = s .due; lock = s .lock; soonest = s .soonest; picked = i; «to_come» = s .«to_come» }) (picked-by order s)
 unfolding picked-by pick-task
 pick-anew order s i h e = let none : s .«to_come» ≡ 0 = omega arith in rw (none, e)
 

@@ -3,7 +3,7 @@ use mathlib.Core.Bool.{true, false, and-eq-true-iff, true≢false}
 use mathlib.Core.List.{List}
 use mathlib.Core.Option.{none, Option·getD}
 use mathlib.Core.Path.{_≡_, refl, sym, ap, _∙_}
-use Prim.Native.Nat.{ℕ, zero, suc, _+_, _-_, _*_, _^_, _≤_, _<_}
+use Prim.Native.Nat.{ℕ, zero, suc, _+_, _*_, _≤_, _<_}
 use native.Mathlib.Decide.{decLe, ℕ-discrete}
 use native.Mathlib.Nat.{add-zero, zero-add, le-of-suc-le-suc, not-suc-le-zero}
 use native.Mathlib.Numerals.{add-one}
@@ -24,13 +24,13 @@ use Rattle.plays.proofs.ScriptFacts.{member-at, entry-in-set}
 use Rattle.plays.proofs.OnePending.{Calm}
 use Rattle.plays.proofs.PlayEnds.{not-over, still-on, over-by-miss, over-by-done, end-is, end-unique, before-end}
 use Rattle.scripts.specs.Reading.{entry-at}
-use Rattle.player.specs.State.{at-rest, released, picked-by, misser-in, shown-byte}
-use Rattle.player.specs.Inside.Course.{never, upcoming, Seen, Stage, Going, Gone, Chosen, order-on, with-picked, after-tick, done-with, the-end, shown-on}
+use Rattle.player.specs.State.{never, at-rest, released, picked-by, misser-in, shown-byte}
+use Rattle.player.specs.Inside.Course.{never-released, upcoming, Seen, Stage, Going, Gone, order-on, looked-ahead, with-picked, after-tick, done-with, the-end, shown-on}
 use Rattle.player.specs.declared.state.Player.{Player}
 use Rattle.player.specs.declared.course.Cast.{Cast}
 use Rattle.player.specs.declared.course.Progress.{Progress}
 use Rattle.player.specs.declared.course.End.{End}
-use Rattle.player.proofs.Moments.{Releasing, starts, releases-start, releases-more, releases-end, goes-on, legal, finds-misser, nobody-picked, picked-in, tick-shown, all-are-done, not-all-released, not-all-done}
+use Rattle.player.proofs.Moments.{Releasing, starts, releases-start, releases-more, releases-end, goes-on, legal, finds-misser, nobody-picked, picked-in, tick-shown, all-are-done, not-all-released, not-all-done, ahead-in-play}
 
 -- ---- the next entry
 
@@ -39,7 +39,7 @@ module _ (s : List ℕ) (cast : Cast) (j : ℕ) where
   unfolding upcoming
   upcoming-there h = rw (lt-ltb j (cast .entries) h)
 
-  pub upcoming-never : cast .entries ≤ j → never ≡ upcoming s cast j
+  pub upcoming-never : cast .entries ≤ j → never-released ≡ upcoming s cast j
   unfolding upcoming
   upcoming-never h = rw (le-ltb j (cast .entries) h)
 
@@ -60,7 +60,7 @@ module _ {s : List ℕ} {cast : Cast} (stage : Stage s cast) where
   next-entry j h = sym (upcoming-there s cast j (omega (arith, stage .entries-are))) ∙ stage .entry-is j h
 
   -- an entry of the tick is one of the script's
-  is-entry : (t j : ℕ) → t < 2 ^ 32 - 1 → j ≤ length (stage .sc .entries) → upcoming s cast j .tick ≡ t → j < length (stage .sc .entries)
+  is-entry : (t j : ℕ) → t < never → j ≤ length (stage .sc .entries) → upcoming s cast j .tick ≡ t → j < length (stage .sc .entries)
   is-entry t j soon within now = go (ℕ-discrete j (length (stage .sc .entries)))
     where
       go : Dec (j ≡ length (stage .sc .entries)) → j < length (stage .sc .entries)
@@ -78,7 +78,7 @@ module _ {s : List ℕ} {cast : Cast} (stage : Stage s cast) where
       go (yes e) = rw e calm
       go (no ne) = not-over order-here tasks-here sc-here u (going .not-over u (omega arith)) .0
 
-  module _ (t j : ℕ) (soon : t < 2 ^ 32 - 1) (player : Player) (at : ReleasingOn t j player) (next : Entry) (is : next ≡ upcoming s cast j) (now : next .tick ≡ t) where
+  module _ (t j : ℕ) (soon : t < never) (player : Player) (at : ReleasingOn t j player) (next : Entry) (is : next ≡ upcoming s cast j) (now : next .tick ≡ t) where
     in-row : j < length (stage .sc .entries)
     in-row = is-entry t j soon (at .within) (sym (ap (λ x. x .tick) is) ∙ now)
 
@@ -123,9 +123,26 @@ module _ {s : List ℕ} {cast : Cast} (stage : Stage s cast) where
         next-is = going .next-is;
       }
 
+  -- looking ahead
+  pub still-going : (t : ℕ) (at then : Progress) → Going stage t at → then ≡ looked-ahead at t → Going stage t then
+  still-going t at then going is =
+      rw is
+      (record {
+        in-play = ahead-in-play order-here tasks-here sc-here (stage .ready) t (at .released) (at .player) (going .in-play);
+        next-is = going .next-is;
+        not-over = going .not-over;
+      })
+
+  -- with the releases of tick t seen and the task picked that has it
+  pub record Chosen (t : ℕ) (at : Progress) : Type 0 where
+    pub before : Player
+    pub seen : Seen order-here tasks-here sc-here t (at .released) before
+    pub picks : at .player ≡ picked-by order-here before
+    pub next-is : at .next ≡ upcoming s cast (at .released)
+
   -- the task that has the tick is picked
-  pub then-chosen : (t : ℕ) (at : Progress) → Gone stage t at → Chosen stage t (with-picked cast at)
-  then-chosen t at gone = record { before = at .player; seen = gone .seen; picks = refl; next-is = gone .next-is }
+  pub then-chosen : (t : ℕ) (at then : Progress) → Gone stage t at → then ≡ with-picked cast at → Chosen t then
+  then-chosen t at then gone is = rw is (record { before = at .player; seen = gone .seen; picks = refl; next-is = gone .next-is })
 
   -- ---- from moment to moment
 
@@ -142,7 +159,7 @@ module _ {s : List ℕ} {cast : Cast} (stage : Stage s cast) where
   pub count-fits : cast .count ≤ most-tasks
   count-fits = omega (arith, stage .count-is, stage .ready .few)
 
-  module _ (t : ℕ) (at : Progress) (going : Going stage t at) (chosen : Progress) (picks : Chosen stage t chosen) where
+  module _ (t : ℕ) (at : Progress) (going : Going stage t at) (chosen : Progress) (picks : Chosen t chosen) where
     -- the play goes on behind a tick at which it is not over
     pub behind-tick : over order-here tasks-here sc-here t ≡ false → Going stage (t + 1) (after-tick chosen)
     behind-tick on =
@@ -189,7 +206,7 @@ module _ {s : List ℕ} {cast : Cast} (stage : Stage s cast) where
             let z : ⊥ = omega (arith, found-is ∙ ap (λ o. Option·getD o most-tasks) e, in-set, stage .ready .few) in
             absurd z
 
-  module _ (t : ℕ) (at : Progress) (picks : Chosen stage t at) where
+  module _ (t : ℕ) (at : Progress) (picks : Chosen t at) where
     picked-is : at .player .picked ≡ picked-by order-here (picks .before) .picked
     picked-is = ap (λ x. x .picked) (picks .picks)
 
@@ -215,13 +232,13 @@ module _ {s : List ℕ} {cast : Cast} (stage : Stage s cast) where
         go (yes l) (yes m) = absurd (true≢false (sym (and-eq-true-iff (leb (cast .entries) (at .released)) (leb most-tasks (at .player .picked)) .1 (le-leb _ _ l, le-leb _ _ m)) ∙ e))
 
   -- all jobs are done at a moment at which no task misses
-  pub done-ends : (t : ℕ) (at chosen : Progress) → Going stage t at → misser order-here tasks-here sc-here t ≡ none → Chosen stage t chosen → done-with (cast .entries) chosen ≡ true
+  pub done-ends : (t : ℕ) (at chosen : Progress) → Going stage t at → misser order-here tasks-here sc-here t ≡ none → Chosen t chosen → done-with (cast .entries) chosen ≡ true
       → _≡_ {A = End} (record { tick = t; task = most-tasks }) (the-end stage)
   done-ends t at chosen going calm picks e =
       rw calm at (ends-at t (over-by-done order-here tasks-here sc-here t (done-so t chosen picks e)) (going .not-over))
 
   -- the play goes on where neither is so
-  pub goes-behind : (t : ℕ) (at chosen : Progress) → Going stage t at → misser order-here tasks-here sc-here t ≡ none → Chosen stage t chosen → done-with (cast .entries) chosen ≡ false
+  pub goes-behind : (t : ℕ) (at chosen : Progress) → Going stage t at → misser order-here tasks-here sc-here t ≡ none → Chosen t chosen → done-with (cast .entries) chosen ≡ false
       → Going stage (t + 1) (after-tick chosen)
   goes-behind t at chosen going calm picks e =
       behind-tick t at going chosen picks (still-on order-here tasks-here sc-here t calm (not-done-so t chosen picks e))
@@ -256,7 +273,7 @@ module _ {s : List ℕ} {cast : Cast} (stage : Stage s cast) (end : ℕ) (to-end
   pub calm-yet : misser (order-on stage) (stage .tasks) (stage .sc) t ≡ none
   calm-yet = not-yet .0
 
-  pub soon-yet : t < 2 ^ 32 - 1
+  pub soon-yet : t < never
   soon-yet =
       let it = end-is (order-on stage) (stage .tasks) (stage .sc) (stage .ready .permutes) (stage .ready .admitted) (legal (order-on stage) (stage .tasks) (stage .sc) (stage .ready)) (stage .ready .ticks-in) (stage .ready .deadlines-in) in
       omega (arith, it .before)

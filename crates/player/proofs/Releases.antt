@@ -25,9 +25,10 @@ use Rattle.plays.proofs.ScriptLegal.{entries-in-order}
 use Rattle.plays.proofs.ScriptFacts.{member-at, NoneAt, none-yet, none-more, entry-in-set, now-there, others-stay}
 use Rattle.plays.proofs.ScriptLanes.{task-of-number, seen-by-release}
 use Rattle.player.specs.State.{released}
-use Rattle.player.specs.Shows.{Slot, Shows, locks-of}
+use Rattle.player.specs.Shows.{NoSooner, Slot, Shows, locks-of}
 use Rattle.player.specs.declared.state.Player.{Player}
 use Rattle.player.proofs.Slots.{slot-released}
+use Rattle.player.proofs.Soonest.{sooner-released}
 
 -- the release of task i
 released-of : (order : List ℕ) (sc : Script) (t p : ℕ) {i : ℕ} → number-at order p ≡ i → released-at order sc t p ≡ work-of (entry-of (sc .entries) i t)
@@ -44,6 +45,7 @@ module _ (order : List ℕ) (tasks : List Task) (sc : Script) where
     pub slots : (i : ℕ) → i < length tasks → Slot tasks sc player i (lane-with t s j i .jobs)
     pub coming : player .«to_come» ≡ s .to-come
     pub holder : 1 ≤ s .to-come → number-at order (s .owner) ≡ player .picked
+    pub no-sooner : NoSooner (player .soonest) (length tasks) (player .left) (player .due)
     pub left-room : length (player .left) ≡ most-tasks
     pub due-room : length (player .due) ≡ most-tasks
     pub lock-room : length (player .lock) ≡ most-tasks
@@ -64,6 +66,7 @@ module _ (order : List ℕ) (tasks : List Task) (sc : Script) where
         slots = λ i h. rw (nothing-released t i (s .lanes (place-of order i)) (none-yet (sc .entries) j i t none-at)) (shows .slots i h);
         coming = shows .coming;
         holder = shows .holder;
+        no-sooner = shows .no-sooner;
         left-room = shows .left-room;
         due-room = shows .due-room;
         lock-room = shows .lock-room;
@@ -115,6 +118,7 @@ module _ (order : List ℕ) (tasks : List Task) (sc : Script) where
             slots = λ i h. go i h (ℕ-discrete i (e .task));
             coming = before .coming;
             holder = before .holder;
+            no-sooner = sooner-released (player .soonest) (length tasks) (player .left) (player .due) (before .no-sooner) (e .task) (e .work) (e .tick + deadline) (omega (arith, entry-in-set tasks sc kept j in-row, before .due-room));
             left-room = length-set (player .left) (e .task) (e .work) ∙ before .left-room;
             due-room = length-set (player .due) (e .task) (e .tick + deadline) ∙ before .due-room;
             lock-room = length-set (player .lock) (e .task) (e .lock) ∙ before .lock-room;
@@ -133,6 +137,7 @@ module _ (order : List ℕ) (tasks : List Task) (sc : Script) where
         slots = λ i h. rw (seen i h) (seeing .slots i h);
         coming = seeing .coming;
         holder = seeing .holder;
+        no-sooner = seeing .no-sooner;
         left-room = seeing .left-room;
         due-room = seeing .due-room;
         lock-room = seeing .lock-room;

@@ -1,9 +1,9 @@
--- A pick and a tick of the player go the way of the theory's.
+-- A pick and a tick of the player go the way of the theory's, and a look ahead changes nothing of what is shown.
 use mathlib.Core.List.{List, [], _∷_}
 use mathlib.Core.Option.{none, some}
 use mathlib.Core.Path.{_≡_, refl, sym, ap, ap₂, _∙_}
 use Prim.Native.Nat.{ℕ, zero, suc, pred, _+_, _≤_, _<_}
-use native.Mathlib.Decide.{ℕ-discrete}
+use native.Mathlib.Decide.{ℕ-discrete, decLt}
 use native.Mathlib.Nat.{le-of-suc-le-suc, not-suc-le-zero}
 use native.Mathlib.Omega.{arith}
 use borrow.Author.Tests.{lt-ltb, le-ltb}
@@ -19,11 +19,12 @@ use Rattle.analysis.proofs.Numbering.{number-in, number-back, place-back}
 use Rattle.plays.specs.Script.{Script}
 use Rattle.plays.specs.ScriptRun.{by-place, stretch-by, stretch-at, new-stretch}
 use Rattle.plays.specs.Play.{shown-task, shown-stretch}
-use Rattle.player.specs.State.{first-pending, pick-task, picked-by, stretch-in, served, ticked, shown-byte}
+use Rattle.player.specs.State.{first-pending, pick-task, picked-by, stretch-in, served, ticked, looking-ahead, shown-byte}
 use Rattle.player.specs.Shows.{Slot, Shows}
 use Rattle.player.specs.declared.state.Player.{Player}
 use Rattle.player.proofs.Slots.{slot-left, slot-lock, slot-served}
 use Rattle.player.proofs.Picking as own
+use Rattle.player.proofs.Soonest.{soonest-least, sooner-served, not-reached, reached}
 
 -- ---- the first task of an order with work left
 
@@ -87,6 +88,7 @@ module _ (order : List ℕ) (tasks : List Task) (sc : Script) (permutes : Permut
           slots = shows .slots;
           coming = shows .coming;
           holder = λ h. go (s .to-come) refl h;
+          no-sooner = shows .no-sooner;
           left-room = shows .left-room;
           due-room = shows .due-room;
           lock-room = shows .lock-room;
@@ -95,6 +97,26 @@ module _ (order : List ℕ) (tasks : List Task) (sc : Script) (permutes : Permut
         go : (n : ℕ) → s .to-come ≡ n → 1 ≤ n → number-at order (s .owner) ≡ pick-task order player
         go zero e h = absurd (not-suc-le-zero h)
         go (suc m) e h = shows .holder (omega arith) ∙ sym (pick-held e)
+
+  -- ---- looking ahead
+
+  -- the state shows the same
+  pub ahead-shows : (s : State) (player : Player) (t : ℕ) → Shows order tasks sc s player → Shows order tasks sc s (looking-ahead player t)
+  ahead-shows s player t shows = go (decLt t (player .soonest))
+    where
+      go : Dec (t < player .soonest) → Shows order tasks sc s (looking-ahead player t)
+      go (yes h) = rw (← not-reached player t h) shows
+      go (no h) =
+          rw (← reached player t _ (omega arith) refl)
+          (record {
+            slots = shows .slots;
+            coming = shows .coming;
+            holder = shows .holder;
+            no-sooner = λ i h l. soonest-least (player .left) (player .due) most-tasks i (omega arith) l;
+            left-room = shows .left-room;
+            due-room = shows .due-room;
+            lock-room = shows .lock-room;
+          })
 
   -- ---- a tick
 
@@ -134,6 +156,7 @@ module _ (order : List ℕ) (tasks : List Task) (sc : Script) (permutes : Permut
           slots = served-slot;
           coming = rw (left-is, same-stretch) (sym (tick-to-come p new s));
           holder = λ _. ap (number-at order) (tick-owner p new s) ∙ sym has-it;
+          no-sooner = sooner-served (player .soonest) (length tasks) (player .left) (player .due) (shows .no-sooner) (player .picked) (omega (arith, i-in, shows .left-room));
           left-room = length-set (player .left) (player .picked) _ ∙ shows .left-room;
           due-room = shows .due-room;
           lock-room = shows .lock-room;

@@ -1,10 +1,11 @@
-// The course of a play, moment by moment: misses, releases, pick, tick.
+// The course of a play, moment by moment: misses, a look ahead, releases, pick, tick.
 ghost use mathlib.Core.Path.{_≡_};
 ghost use Prim.Native.Nat.{ℕ, _≤_, _<_};
 ghost use lib.ListN.{length, getD};
 ghost use Rattle.sheet.specs.Constants.{most-tasks};
 ghost use Rattle.lent.specs.Lent.{laid};
-ghost use Rattle.player.specs.Inside.Course.{upcoming, Stage, Going, Gone, Calmly, Chosen, with-picked, after-tick, done-with, the-end, Traceable, shown-on};
+ghost use Rattle.player.specs.Inside.Course.{upcoming, Stage, Going, Gone, Calmly, looked-ahead, with-picked, after-tick, done-with, the-end, Traceable, shown-on};
+use crate::state::NEVER;
 use crate::state::Player;
 use plays::Entry;
 use sheet::Sheet;
@@ -29,9 +30,6 @@ pub struct End {
     pub tick: u32,
     pub task: u32,
 }
-
-// Later than every tick of a script.
-const NEVER: u32 = 0xFFFF_FFFF;
 
 // The last moment at which a play can end: a job is released by the greatest time, and misses that much later.
 const LAST_MOMENT: u32 = 2 * Sheet::GREATEST_TIME;
@@ -63,6 +61,20 @@ fn start(script: &[u8], cast: Cast) -> Progress
     }
 }
 
+// No task misses at the moment: where it is one by which a job was due, the play looks ahead to the next.
+fn ahead(at: Progress, moment: u32) -> Progress
+    ensures { λ r. ⌜ r ≡ looked-ahead at moment ⌝ }
+{
+    let player = at.player;
+    let then = player.look_ahead(moment);
+    let next = at.next;
+    Progress {
+        player: then,
+        released: at.released,
+        next,
+    }
+}
+
 // The releases of a tick.
 fn releases(script: &[u8], cast: Cast, at: Progress, moment: u32) -> Progress
     requires { ⌜ Calmly (now script) cast moment at ⌝ }
@@ -86,6 +98,19 @@ fn releases(script: &[u8], cast: Cast, at: Progress, moment: u32) -> Progress
     }
 }
 
+// The same, at once where there are none.
+fn seen(script: &[u8], cast: Cast, at: Progress, moment: u32) -> Progress
+    requires { ⌜ Calmly (now script) cast moment at ⌝ }
+    ensures { λ r. ⌜ ((on : Calmly (now (script .entry)) cast moment at) → Gone (on .stage) moment r) ⌝ }
+{
+    let next = at.next;
+    // which is so at most ticks
+    if next.tick != moment {
+        return at;
+    }
+    releases(script, cast, at, moment)
+}
+
 // The task that has the tick is picked.
 fn picked(cast: Cast, at: Progress) -> Progress
     requires { ⌜ (cast .count ≤ most-tasks) × ((p : ℕ) → p < cast .count → getD (cast .order) p 0 < most-tasks) ⌝ }
@@ -100,19 +125,6 @@ fn picked(cast: Cast, at: Progress) -> Progress
         released: at.released,
         next,
     }
-}
-
-// The releases of a tick are seen, and the task that has the tick is picked.
-fn seen(script: &[u8], cast: Cast, at: Progress, moment: u32) -> Progress
-    requires { ⌜ Calmly (now script) cast moment at ⌝ }
-    ensures { λ r. ⌜ ((on : Calmly (now (script .entry)) cast moment at) → Chosen (on .stage) moment r) ⌝ }
-{
-    let next = at.next;
-    // most ticks have no release
-    if next.tick != moment {
-        return picked(cast, at);
-    }
-    picked(cast, releases(script, cast, at, moment))
 }
 
 // The tick is given.
@@ -153,7 +165,8 @@ pub fn play_on(script: &[u8], cast: Cast) -> End
         if task < Sheet::MOST_TASKS {
             return End { tick: moment, task };
         }
-        let then = seen(script, cast, at, moment);
+        let calm = ahead(at, moment);
+        let then = picked(cast, seen(script, cast, calm, moment));
         if all_done(then, cast.entries) {
             return End {
                 tick: moment,
@@ -178,7 +191,7 @@ pub fn trace_on(script: &[u8], cast: Cast, end: u32, ticks: &mut [u8])
     let mut at = start(script, cast);
     let mut moment: u32 = 0;
     while moment < end {
-        let then = seen(script, cast, at, moment);
+        let then = picked(cast, seen(script, cast, at, moment));
         let player = then.player;
         ticks[moment as usize] = player.shown();
         at = ticked(then);

@@ -1,26 +1,31 @@
 // The state of a play, handed on from tick to tick. Before the first miss at most one job of a task is pending, so that one slot for each task is enough.
 ghost use mathlib.Core.Path.{_≡_};
-ghost use Prim.Native.Nat.{ℕ, pred, _+_, _≤_, _<_};
+ghost use Prim.Native.Nat.{ℕ, pred, _+_, _≤_, _<_, min};
 ghost use lib.ListN.{length, take, set, getD};
 ghost use Rattle.sheet.specs.Constants.{most-tasks, greatest-time};
 ghost use Rattle.theory.specs.Runs.{stretch-now, stretch-after};
 ghost use Rattle.plays.specs.ScriptRun.{stretch-by};
-ghost use Rattle.player.specs.State.{at-rest, released, first-pending, late, first-late, picked-by, ticked, misser-in, shown-byte};
+ghost use Rattle.player.specs.State.{due-with, soonest-due, at-rest, released, first-pending, late, first-late, picked-by, ticked, misser-in, looking-ahead, shown-byte};
 use plays::Entry;
 use sheet::Sheet;
 
-// Of each task by number its pending job: the work left (0: none is pending), the moment by which it is due, and its lock; the task that has
-// the tick, or had the last one (16: none); and of a locked stretch under way, which is that task's, the ticks still to come.
+// Of each task by number its pending job: the work left (0: none is pending), the moment by which it is due, and its lock; a moment before
+// which no task can miss; the task that has the tick, or had the last one (16: none); and of a locked stretch under way, which is that
+// task's, the ticks still to come.
 pub struct Player {
     pub left: [u32; Sheet::TASK_ROOM],
     pub due: [u32; Sheet::TASK_ROOM],
     pub lock: [u32; Sheet::TASK_ROOM],
+    pub soonest: u32,
     pub picked: u32,
     pub to_come: u32,
 }
 
 // What the byte of a tick has more in a locked stretch.
 const IN_STRETCH: u32 = 2 * Sheet::MOST_TASKS;
+
+// Later than every moment of a play.
+pub const NEVER: u32 = 0xFFFF_FFFF;
 
 // The numbers of all tasks with another one for a task.
 fn with_number(numbers: [u32; Sheet::TASK_ROOM], i: usize, n: u32) -> [u32; Sheet::TASK_ROOM]
@@ -78,6 +83,37 @@ fn first_late(
     Sheet::MOST_TASKS
 }
 
+// The sooner of two moments.
+fn sooner(a: u32, b: u32) -> u32
+    ensures { λ r. ⌜ r ≡ min a b ⌝ }
+{
+    if b < a {
+        return b;
+    }
+    a
+}
+
+// The moment by which a job with that work left is due: with none left, never.
+fn due_with(left: u32, due: u32) -> u32
+    ensures { λ r. ⌜ r ≡ due-with left due ⌝ }
+{
+    if 0 < left {
+        return due;
+    }
+    NEVER
+}
+
+// The soonest moment by which a pending job is due.
+fn soonest_due(left: [u32; Sheet::TASK_ROOM], due: [u32; Sheet::TASK_ROOM]) -> u32
+    ensures { λ r. ⌜ r ≡ soonest-due left due most-tasks ⌝ }
+{
+    let mut soonest = NEVER;
+    for i in 0..Sheet::TASK_ROOM {
+        soonest = sooner(soonest, due_with(left[i], due[i]));
+    }
+    soonest
+}
+
 // One less, down to 0.
 fn less_one(n: u32) -> u32
     ensures { λ r. ⌜ r ≡ pred n ⌝ }
@@ -120,6 +156,7 @@ impl Player {
             left: [0; Sheet::TASK_ROOM],
             due: [0; Sheet::TASK_ROOM],
             lock: [0; Sheet::TASK_ROOM],
+            soonest: NEVER,
             picked: Sheet::MOST_TASKS,
             to_come: 0,
         }
@@ -134,13 +171,15 @@ impl Player {
         let left = self.left;
         let due = self.due;
         let lock = self.lock;
+        let its_due = entry.tick + deadline;
         let left_then = with_number(left, i, entry.work);
-        let due_then = with_number(due, i, entry.tick + deadline);
+        let due_then = with_number(due, i, its_due);
         let lock_then = with_number(lock, i, entry.lock);
         Player {
             left: left_then,
             due: due_then,
             lock: lock_then,
+            soonest: sooner(self.soonest, its_due),
             picked: self.picked,
             to_come: self.to_come,
         }
@@ -155,15 +194,9 @@ impl Player {
             return self;
         }
         let left = self.left;
-        let due = self.due;
-        let lock = self.lock;
-        Player {
-            left,
-            due,
-            lock,
-            picked: first_pending(left, order, count),
-            to_come: 0,
-        }
+        let mut then = self;
+        then.picked = first_pending(left, order, count);
+        then
     }
 
     // The tick is given to the task picked.
@@ -184,19 +217,38 @@ impl Player {
             left: left_then,
             due,
             lock,
+            soonest: self.soonest,
             picked: self.picked,
             to_come: stretch_after(left_after, length),
         }
     }
 
-    // The lowest-numbered task whose job has work left at the moment by which it is due.
+    // The lowest-numbered task whose job has work left at the moment by which it is due, looked for from the soonest moment on.
     pub fn misser(self, count: usize, now: u32) -> u32
         requires { ⌜ count ≤ most-tasks ⌝ }
         ensures { λ r. ⌜ r ≡ misser-in self count now ⌝ }
     {
+        // most moments are before
+        if now < self.soonest {
+            return Sheet::MOST_TASKS;
+        }
         let left = self.left;
         let due = self.due;
         first_late(left, due, count, now)
+    }
+
+    // Where the soonest moment is reached, and no task misses, the next one is looked for: what was due is complete.
+    pub fn look_ahead(self, now: u32) -> Player
+        ensures { λ r. ⌜ r ≡ looking-ahead self now ⌝ }
+    {
+        if now < self.soonest {
+            return self;
+        }
+        let left = self.left;
+        let due = self.due;
+        let mut then = self;
+        then.soonest = soonest_due(left, due);
+        then
     }
 
     // What the tick shows, once its task is picked: the task's number, and 32 more in a locked stretch.

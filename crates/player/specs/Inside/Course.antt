@@ -3,7 +3,7 @@ use mathlib.Core.Bool.{Bool, false, cond, _&&_}
 use mathlib.Core.List.{List, List·Memᴰ}
 use mathlib.Core.Option.{none, Option·getD}
 use mathlib.Core.Path.{_≡_}
-use Prim.Native.Nat.{ℕ, _-_, _^_, _≤_, _<_}
+use Prim.Native.Nat.{ℕ, _≤_, _<_}
 use lib.Dec.{leb, ltb}
 use lib.ListN.{length, getD, take, drop}
 use Rattle.lent.specs.Checks.{first-refusal}
@@ -17,21 +17,25 @@ use Rattle.plays.specs.Play.{script-seen, misser, over, end-of-play, shown-from
 use Rattle.plays.specs.declared.Entry.{Entry}
 use Rattle.scripts.specs.Reading.{entry-at}
 use Rattle.player.specs.Shows.{Shows}
-use Rattle.player.specs.State.{picked-by, ticked}
+use Rattle.player.specs.State.{never, picked-by, ticked, looking-ahead}
 use Rattle.player.specs.declared.state.Player.{Player}
 use Rattle.player.specs.declared.course.Cast.{Cast}
 use Rattle.player.specs.declared.course.Progress.{Progress}
 use Rattle.player.specs.declared.course.End.{End}
 
 -- an entry that is never released
-abbrev pub never : Entry
-never = record { task = 0; tick = 2 ^ 32 - 1; work = 0; lock = 0 }
+abbrev pub never-released : Entry
+never-released = record { task = 0; tick = never; work = 0; lock = 0 }
 
 -- entry j, or that one where there is none
 unfoldable pub upcoming : List ℕ → Cast → ℕ → Entry
-upcoming s cast j = cond (ltb j (cast .entries)) (entry-at (cast .count) s j) never
+upcoming s cast j = cond (ltb j (cast .entries)) (entry-at (cast .count) s j) never-released
 
--- how far a play has come, with the task picked that has the tick
+-- how far a play has come, looking ahead at a moment at which no task misses
+abbrev pub looked-ahead : Progress → ℕ → Progress
+looked-ahead at t = record { player = looking-ahead (at .player) t; released = at .released; next = at .next }
+
+-- how far it has come, with the task picked that has the tick
 abbrev pub with-picked : Cast → Progress → Progress
 with-picked cast at = record { player = picked-by (take (cast .count) (cast .order)) (at .player); released = at .released; next = at .next }
 
@@ -93,13 +97,6 @@ module _ {s : List ℕ} {cast : Cast} (stage : Stage s cast) where
     pub seen : Seen order-on (stage .tasks) (stage .sc) t (at .released) (at .player)
     pub next-is : at .next ≡ upcoming s cast (at .released)
 
-  -- with the task picked that has the tick
-  pub record Chosen (t : ℕ) (at : Progress) : Type 0 where
-    pub before : Player
-    pub seen : Seen order-on (stage .tasks) (stage .sc) t (at .released) before
-    pub picks : at .player ≡ picked-by order-on before
-    pub next-is : at .next ≡ upcoming s cast (at .released)
-
   -- how the play ends
   abbrev pub the-end : End
   the-end =
@@ -111,7 +108,7 @@ pub record Calmly (s : List ℕ) (cast : Cast) (t : ℕ) (at : Progress) : Type 
   pub stage : Stage s cast
   pub going : Going stage t at
   pub calm : misser (order-on stage) (stage .tasks) (stage .sc) t ≡ none
-  pub soon : t < 2 ^ 32 - 1
+  pub soon : t < never
 
 -- n ticks of the play, a byte each
 abbrev pub shown-on : {s : List ℕ} {cast : Cast} → Stage s cast → ℕ → List ℕ

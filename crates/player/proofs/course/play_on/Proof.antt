@@ -4,8 +4,8 @@ use Prim.Native.Nat.{suc, _-_, _*_}
 use native.Mathlib.Omega.{arith}
 use borrow.Author.Needs.{needs}
 use Rattle.sheet.specs.Constants.{greatest-time}
-use Rattle.player.specs.Inside.Course.{Stage, Going}
-use Rattle.player.proofs.Playing.{count-fits, miss-ends, none-misses, done-ends, goes-behind, never-past}
+use Rattle.player.specs.Inside.Course.{Stage, Going, Calmly}
+use Rattle.player.proofs.Playing.{count-fits, order-fits, miss-ends, none-misses, still-going, then-chosen, done-ends, goes-behind, never-past}
 use Rattle.player.proofs.course.play_on.Statement.{statement}
 use Rattle.player.proofs.course.play_on.Tie as tie
 
@@ -22,9 +22,10 @@ returns c stage =
 
 returns-2 : tie.Need-returns-2 Inv-loop μ-loop
 returns-2 c stage =
-    let l = c .before .before .before .before .before .before .before .before .loop in
-    let calm = none-misses stage (l .moment) (l .at) (l .inv stage) _ (c .before .before .before .before .misser .ensures) (omega arith) in
-    let chosen = c .before .before .seen .ensures (record { stage = stage; going = l .inv stage; calm = calm; soon = omega arith }) in
+    let l = c .before .before .before .before .before .before .before .before .before .before .loop in
+    let calm = none-misses stage (l .moment) (l .at) (l .inv stage) _ (c .before .before .before .before .before .before .misser .ensures) (c .before .before .before .before .before .if1 .left) in
+    let on : Calmly _ _ _ _ = record { stage = stage; going = still-going stage (l .moment) (l .at) _ (l .inv stage) (c .before .before .before .before .ahead .ensures); calm = calm; soon = omega (arith, c .before .before .before .before .before .before .before .before .before .loop-test .taken) } in
+    let chosen = then-chosen stage (l .moment) _ _ (c .before .before .before .seen .ensures on) (c .before .before .picked .ensures) in
     done-ends stage (l .moment) (l .at) _ (l .inv stage) calm chosen (sym (c .before .all-done .ensures) ∙ c .if2 .taken)
 
 returns-3 : tie.Need-returns-3 Inv-loop μ-loop
@@ -42,11 +43,18 @@ cast-misser c = search needs
 misser-requires : tie.Need-misser-requires Inv-loop μ-loop
 misser-requires c κs = count-fits (c .before .before .before .before .before .before .pre)
 
+ahead-requires : tie.Need-ahead-requires Inv-loop μ-loop
+ahead-requires c κs = search needs
+
 seen-requires : tie.Need-seen-requires Inv-loop μ-loop
 seen-requires c κs =
-    let stage = c .before .before .before .before .before .before .before .before .pre in
-    let l = c .before .before .before .before .before .loop in
-    record { stage = stage; going = l .inv stage; calm = none-misses stage (l .moment) (l .at) (l .inv stage) _ (c .before .misser .ensures) (omega arith); soon = omega arith }
+    let stage = c .before .before .before .before .before .before .before .before .before .pre in
+    let l = c .before .before .before .before .before .before .loop in
+    let calm = none-misses stage (l .moment) (l .at) (l .inv stage) _ (c .before .before .misser .ensures) (c .before .if1 .left) in
+    record { stage = stage; going = still-going stage (l .moment) (l .at) _ (l .inv stage) (c .ahead .ensures); calm = calm; soon = omega (arith, c .before .before .before .before .before .loop-test .taken) }
+
+picked-requires : tie.Need-picked-requires Inv-loop μ-loop
+picked-requires c κs = let stage = c .before .before .before .before .before .before .before .before .before .before .pre in (count-fits stage, order-fits stage)
 
 all-done-requires : tie.Need-all-done-requires Inv-loop μ-loop
 all-done-requires c κs = search needs
@@ -55,16 +63,17 @@ ticked-requires : tie.Need-ticked-requires Inv-loop μ-loop
 ticked-requires c κs = search needs
 
 add-moment : tie.Need-add-moment Inv-loop μ-loop
-add-moment c = search needs
+add-moment c = record { fits = omega (arith, c .before .before .before .before .before .before .before .before .before .before .loop-test .taken) }
 
 loop-less : tie.Need-loop-less Inv-loop μ-loop
-loop-less c = search needs
+loop-less c = omega (arith, c .before .before .before .before .before .before .before .before .before .before .loop-test .taken)
 
 loop-again : tie.Need-loop-again Inv-loop μ-loop
 loop-again c stage =
-    let l = c .before .before .before .before .before .before .before .before .before .loop in
-    let calm = none-misses stage (l .moment) (l .at) (l .inv stage) _ (c .before .before .before .before .before .misser .ensures) (omega arith) in
-    let chosen = c .before .before .before .seen .ensures (record { stage = stage; going = l .inv stage; calm = calm; soon = omega arith }) in
+    let l = c .before .before .before .before .before .before .before .before .before .before .before .loop in
+    let calm = none-misses stage (l .moment) (l .at) (l .inv stage) _ (c .before .before .before .before .before .before .before .misser .ensures) (c .before .before .before .before .before .before .if1 .left) in
+    let on : Calmly _ _ _ _ = record { stage = stage; going = still-going stage (l .moment) (l .at) _ (l .inv stage) (c .before .before .before .before .before .ahead .ensures); calm = calm; soon = omega (arith, c .before .before .before .before .before .before .before .before .before .before .loop-test .taken) } in
+    let chosen = then-chosen stage (l .moment) _ _ (c .before .before .before .before .seen .ensures on) (c .before .before .before .picked .ensures) in
     rw (c .ticked .ensures) (goes-behind stage (l .moment) (l .at) _ (l .inv stage) calm chosen (sym (c .before .before .all-done .ensures) ∙ c .before .if2 .left))
 
 pub play-on-spec : {M : Type 1} → statement M
@@ -78,7 +87,9 @@ play-on-spec =
     cast-misser
     misser-requires
     returns
+    ahead-requires
     seen-requires
+    picked-requires
     all-done-requires
     returns-2
     ticked-requires

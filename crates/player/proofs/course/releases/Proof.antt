@@ -58,7 +58,7 @@ add-released c =
     let a = c .before .before .before .before .before .before .before .before .before .args in
     let on = c .before .before .before .before .before .before .before .before .before .pre in
     let more = entries-left (on .stage) (a .moment) (l .released) (on .soon) (l .player) (l .inv .2 on) (l .next) (l .inv .0) (omega arith) in
-    search needs
+    record { fits = omega (arith, more, c .before .before .before .before .before .before .before .before .before .good .1 .0) }
 
 upcoming-requires : tie.Need-upcoming-requires Inv-loop μ-loop
 upcoming-requires c κs = search needs

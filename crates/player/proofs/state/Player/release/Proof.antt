@@ -6,16 +6,16 @@ use Rattle.player.proofs.state.Player.release.Tie as tie
 
 returns : tie.Need-returns
 returns c =
-    rw (c .before .before .before .with-number .ensures, c .before .with-number2 .ensures, c .with-number3 .ensures) refl
+    rw (c .before .before .before .with-number .ensures, c .before .before .with-number2 .ensures, c .before .with-number3 .ensures, c .sooner .ensures) refl
 
 cast-i : tie.Need-cast-i
 cast-i c = search needs
 
+add-its-due : tie.Need-add-its-due
+add-its-due c = search needs
+
 with-number-requires : tie.Need-with-number-requires
 with-number-requires c κs = search needs
-
-add-with-number : tie.Need-add-with-number
-add-with-number c = search needs
 
 with-number-requires-2 : tie.Need-with-number-requires-2
 with-number-requires-2 c κs = search needs
@@ -23,5 +23,8 @@ with-number-requires-2 c κs = search needs
 with-number-requires-3 : tie.Need-with-number-requires-3
 with-number-requires-3 c κs = search needs
 
+sooner-requires : tie.Need-sooner-requires
+sooner-requires c κs = search needs
+
 pub release-spec : {M : Type 1} → statement M
-release-spec = tie.close (tie.spec cast-i with-number-requires add-with-number with-number-requires-2 with-number-requires-3 returns)
+release-spec = tie.close (tie.spec cast-i add-its-due with-number-requires with-number-requires-2 with-number-requires-3 sooner-requires returns)
