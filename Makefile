@@ -17,6 +17,11 @@ endif
 CARGO ?= cargo
 INSTALL ?= install
 
+# rt compiles for x86-64 on every machine, so that the rest must too; told here, and not by a linker after the proofs.
+ifeq ($(or $(filter check uninstall clean,$(MAKECMDGOALS)),$(filter x86_64,$(shell uname -m)),$(CARGO_BUILD_TARGET)),)
+$(error the libraries are for x86-64, which this machine is not: first eval "$$(.ci/x86-64)", as README.md says)
+endif
+
 # The version and the entries are those of the header; its version macros stand one to a line.
 header := include/burrbeech.h
 number_of = $(shell sed -nE 's/^.define BURRBEECH_VERSION_$(1) ([0-9]+)$$/\1/p' $(header))
@@ -67,7 +72,7 @@ target/lib/$(plain): target/lib/$(soname)
 $(command): $(archive) $(header) $(glue)
 	$(CARGO) build --release --offline --locked --manifest-path command/Cargo.toml --target-dir target/cargo
 	@mkdir -p $(@D)
-	cp target/cargo/release/burrbeech $@
+	cp target/cargo/$(CARGO_BUILD_TARGET:%=%/)release/burrbeech $@
 
 check:
 	.ci/run

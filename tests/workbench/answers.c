@@ -96,8 +96,7 @@ static bool plays(void)
             }
         }
     }
-    /* the number that is proved to suffice: most-bytes-are, crates/worst/proofs/Shown.antt */
-    return BURRBEECH_WORST_MAX == 8388741 && burrbeech_worst_run_length(success(0)) == 0 &&
+    return burrbeech_worst_run_length(success(0)) == 0 &&
            burrbeech_worst_run_length(success(BURRBEECH_WORST_MAX)) == BURRBEECH_WORST_MAX;
 }
 
