@@ -174,6 +174,7 @@ fn request(verb: Verb, given: Given) -> Result<Request, Trouble> {
         Verb::Explain => Ok(Request::Explain { json, source: source(verb, names)? }),
         Verb::Show => Ok(Request::Show { json, source: source(verb, names)? }),
         Verb::Compose => Ok(Request::Compose { table: source(verb, names)?, to }),
+        Verb::Play if json && last.is_some() => Err(usage("play --json has no lanes: --last is for the words".to_string())),
         Verb::Play => {
             let (sheet, script) = two(verb, names)?;
             Ok(Request::Play(PlayOptions { json, last, sheet, script }))
@@ -289,7 +290,8 @@ mod tests {
     fn requests_about_runs() {
         let play = |json, last, script| Request::Play(PlayOptions { json, last, sheet: file("s"), script });
         assert_eq!(parsed("play s r").unwrap(), play(false, None, file("r")));
-        assert_eq!(parsed("play s --last 40 - --json").unwrap(), play(true, Some(40), Name::StandardInput));
+        assert_eq!(parsed("play s --last 40 -").unwrap(), play(false, Some(40), Name::StandardInput));
+        assert_eq!(parsed("play s - --json").unwrap(), play(true, None, Name::StandardInput));
         assert_eq!(parsed("worst s -o r --json").unwrap(), Request::Worst { json: true, sheet: file("s"), to: Some(file("r")) });
         assert_eq!(parsed("worst -").unwrap(), Request::Worst { json: false, sheet: Name::StandardInput, to: None });
         let draw = |script, to, from_tick, to_tick| Request::Draw(DrawOptions { sheet: file("s"), script, to, from_tick, to_tick });
@@ -309,7 +311,7 @@ mod tests {
         let lines =
             "|frobnicate|check --quiet|check -x|check - -|report a b|report --json|report -q a|explain a b|show a b|show -o x|compose -o|\
                      compose -o a -o b|compose a b|refusals x|refusals --json|help nosuch|help check show|--version x|--json|\
-                     play|play s|play - -|play s r x|play s r --last|play s r --last -1|play s r --last 1 --last 2|play s r -o x|\
+                     play|play s|play - -|play s r x|play s r --last|play s r --last -1|play s r --last 1 --last 2|play --json s r --last 1|play s r -o x|\
                      play s r --from 1|worst|worst s r|worst --json s|worst --json s -o -|worst s --last 3|draw|draw s r x|draw - -|\
                      draw s --json|draw s --from|draw s --from x|draw s --to 1 --to 2|draw s --to 4294967296|script|script nosuch|\
                      script compose|script compose s|script compose s t x|script compose s t --json|script show s|script show s r -o x|\

@@ -89,7 +89,7 @@ impl Verb {
             Verb::Explain => "explain [--json] [FILE]",
             Verb::Show => "show [--json] [FILE]",
             Verb::Compose => "compose [TABLE] [-o FILE]",
-            Verb::Play => "play [--last N] [--json] SHEET SCRIPT",
+            Verb::Play => "play [--last N | --json] SHEET SCRIPT",
             Verb::Worst => "worst [--json] SHEET [-o FILE]",
             Verb::Draw => "draw SHEET [SCRIPT] [-o FILE] [--from N] [--to N]",
             Verb::ScriptCompose => "script compose SHEET TEXT [-o FILE]",
@@ -245,7 +245,7 @@ On a terminal the last 60 ticks follow as lanes, a character for each tick: x ru
 ! misses.
 
   --last N  shows the last N ticks so, on a terminal or not; 0 for none
-  --json    prints one object:
+  --json    prints one object, and goes without --last:
   {\"file\":SCRIPT,\"sheet\":SHEET,\"verdict\":\"missed\",\"tasks\":COUNT,\"tick\":MOMENT,\"task\":TASK,\"released\",\"frame\",\"due\",\"work\",\"left\",
     \"also\":[{\"task\",\"released\",\"frame\",\"due\",\"work\",\"left\"}...] (the others that miss at the same moment),...
   {\"file\":SCRIPT,\"sheet\":SHEET,\"verdict\":\"done\",\"tasks\":COUNT,\"tick\":MOMENT,\"task\":null,...

@@ -1,5 +1,6 @@
 //! What is wrong with a refused script, in words. The library says that it is refused and at which item; where the command sees no fault
 //! there, or one before it, it says that it disagrees instead of making up a reason.
+use crate::library;
 use crate::plays::ScriptRefusal;
 use crate::script::{length, Entry, Script, MOST_BYTES};
 use crate::set::{Set, Task, MOST_TASKS, MOST_TICKS};
@@ -47,7 +48,7 @@ impl ScriptFault {
 pub fn of(refusal: ScriptRefusal, bytes: &[u8], set: &Set) -> Result<ScriptFault, Trouble> {
     let script = Script::of(bytes, set.tasks.len());
     let found = match (refusal, &script) {
-        (ScriptRefusal::Whole, _) => whole(bytes, set.tasks.len()),
+        (ScriptRefusal::Whole, _) => whole(bytes, set.tasks.len())?,
         (ScriptRefusal::Item(item), Some(script)) => first_item(set, script).filter(|&(first, _)| first == item).map(|(_, fault)| fault),
         (ScriptRefusal::Item(_), None) => None,
     };
@@ -66,14 +67,15 @@ pub fn none(bytes: &[u8], set: &Set) -> Result<(), Trouble> {
 }
 
 /// 13, with every reason.
-fn whole(bytes: &[u8], tasks: usize) -> Option<ScriptFault> {
+fn whole(bytes: &[u8], tasks: usize) -> Result<Option<ScriptFault>, Trouble> {
     let reasons = match Script::of(bytes, tasks) {
         Some(script) => {
             [check_word_reason(&script, bytes), length_reason(&script, bytes), fill_reason(&script)].into_iter().flatten().collect()
         }
         None => vec![(Part::Length, short_reason(bytes, tasks))],
     };
-    (!reasons.is_empty()).then(|| ScriptFault { reasons, advice: whole_advice(bytes, tasks) })
+    let advice = whole_advice(bytes, tasks)?;
+    Ok((!reasons.is_empty()).then_some(ScriptFault { reasons, advice }))
 }
 
 fn short_reason(bytes: &[u8], tasks: usize) -> String {
@@ -110,14 +112,17 @@ pub fn bytes_words(count: usize) -> String {
 }
 
 /// A script does not say for how many tasks it is, so that with another sheet its fields fall elsewhere.
-fn whole_advice(bytes: &[u8], tasks: usize) -> String {
+fn whole_advice(bytes: &[u8], tasks: usize) -> Result<String, Trouble> {
     if is_text(bytes) {
-        return "This is text, not a script: `burrbeech script compose` makes a script from it.".to_string();
+        return Ok("This is text, not a script: `burrbeech script compose` makes a script from it.".to_string());
     }
-    match (1..=MOST_TASKS).find(|&other| other != tasks && is_whole(bytes, other)) {
+    if library::read(bytes)?.is_ok() {
+        return Ok("It reads as a sheet, and a script is asked for.".to_string());
+    }
+    Ok(match (1..=MOST_TASKS).find(|&other| other != tasks && is_whole(bytes, other)) {
         Some(other) => format!("It would be one for a sheet of {}: look whether this is its sheet.", counted(other as u64, "task")),
         None => "Look whether this is the right file, and whole, and the sheet that it was made for.".to_string(),
-    }
+    })
 }
 
 /// Whether the bytes are a script for so many tasks, as far as 13 goes.

@@ -5,7 +5,7 @@ use crate::running::{run, shell, shipped_one, Folder, ROOT};
 fn wrong_words_are_usage_errors() {
     let lines = "|frobnicate|check --quiet|check -x a|check -qq|check - -|check a - b -|report a b|report --json a|report -q|explain a b|\
                  explain -q a|show a b|show -o x|compose a b|compose -o|compose -o a -o b|compose --json|refusals x|refusals -q|help nosuch|\
-                 play|play s|play - -|play s r x|play s r --last|play s r --last x|play s r -q|worst|worst s r|worst --json s|worst - -|\
+                 play|play s|play - -|play s r x|play s r --last|play s r --last x|play s r --last 3 --json|play s r -q|worst|worst s r|worst --json s|worst - -|\
                  draw|draw s r x|draw s --json|draw s --from|draw s --to -1|draw s -o|script|script nosuch|script compose s|\
                  script compose s t x|script show s|script show s r -o x|script show s r --last 3|script -h x|script show -h x|help script x|\
                  help check show|help -h|--help nosuch|--help check|-h x|--version x|--version -h|--json|-q|-|--|\

@@ -350,6 +350,8 @@ fn swapped_files_are_told() {
     }
     let ran = shell(root, "\"$0\" script compose scripts/g-worst.text sheets/g.sheet");
     assert!(ran.failed(2).ends_with("\nsheets/g.sheet reads as a sheet: the sheet is given first, then the text.\n"), "{}", ran.err);
+    let ran = shell(root, "\"$0\" play sheets/g.sheet sheets/f.sheet");
+    assert!(ran.done(2).ends_with("\nIt reads as a sheet, and a script is asked for.\n"), "{}", ran.text());
     // nothing is read that could keep the user waiting, and no hint is made up
     let ran = shell(root, "sleep 5 | timeout 4 \"$0\" script compose sheets/i.sheet -");
     assert_eq!(ran.failed(2), "sheets/i.sheet: refused 11 (task 0): not accumulatively monotonic\n");
