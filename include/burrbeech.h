@@ -28,8 +28,8 @@
 /* The version, stated here and nowhere else. Until 1.0.0 a new minor version may change the entries. */
 #define BURRBEECH_VERSION_MAJOR 0
 #define BURRBEECH_VERSION_MINOR 3
-#define BURRBEECH_VERSION_PATCH 1
-#define BURRBEECH_VERSION "0.3.1"
+#define BURRBEECH_VERSION_PATCH 2
+#define BURRBEECH_VERSION "0.3.2"
 
 /* Limits. */
 #define BURRBEECH_SHEET_MIN 15         /* bytes of the shortest sheet */
