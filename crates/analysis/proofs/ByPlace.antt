@@ -20,7 +20,7 @@ use Rattle.analysis.specs.Inside.Response.{answer, response-to}
 use Rattle.analysis.specs.declared.response.Response.the-variants.{At, Never}
 use Rattle.analysis.specs.Times.{number-at, times-from, slots-by, slots-of}
 use Rattle.analysis.specs.Findings.{finding-at, findings-from, findings-of}
-use Rattle.analysis.specs.Inside.Steps.{as-written, is-there, times-to, finding-with, finding-to}
+use Rattle.analysis.specs.Inside.Steps.{as-written, is-there, times-to, finding-with, passes-to, finding-to}
 use Rattle.analysis.specs.declared.Finding.{Finding}
 use Rattle.sheet.proofs.Filled.{filled, filled-more, all-filled}
 
@@ -135,12 +135,12 @@ slots-to above blocked r n used = rw (times-to-in above blocked r n used)
 module _ (above : List Higher) (number blocked : ℕ) (r : Record) where
   pub finding-there : (t : ℕ) → response-to above blocked (largest (task-in r .frames)) (shortest-deadline (task-in r)) ≡ At t
       → finding-to above number blocked r ≡ finding-with number blocked (task-in r) true (slots-by true (times-to above blocked r))
-  unfolding finding-to
+  unfolding finding-to passes-to
   finding-there t e = rw e
 
   pub finding-never : response-to above blocked (largest (task-in r .frames)) (shortest-deadline (task-in r)) ≡ Never
       → finding-to above number blocked r ≡ finding-with number blocked (task-in r) false (replicate most-frames 0)
-  unfolding finding-to slots-by
+  unfolding finding-to passes-to slots-by
   finding-never e = rw e
 
 -- the tasks above, the number, the blocking and the task are those of a place
@@ -148,7 +148,7 @@ pub finding-is-at : (order : List ℕ) (set : List Task) (p : ℕ) (above : List
     → 1 ≤ frame-count (task-at set p)
     → above ≡ higher set p → number ≡ number-at order p → blocked ≡ blocking (lower set p) → task-in r ≡ task-at set p
     → finding-to above number blocked r ≡ finding-at order set p
-unfolding finding-to times-to response-to
+unfolding finding-to passes-to times-to response-to
 finding-is-at order set p above number blocked r h ea en eb et =
     rw (
       ea,

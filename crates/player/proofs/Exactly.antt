@@ -42,7 +42,8 @@ never-missed e = let z : _≡_ {A = ℕ} 0 1 = cc in omega arith
 never-done : {r : PlayRefusal} {t : ℕ} → TurnedAway r ≡ Done t → ⊥
 never-done e = let z : _≡_ {A = ℕ} 0 1 = cc in omega arith
 
-one-refusal : {q r : PlayRefusal} → TurnedAway q ≡ TurnedAway r → q ≡ r
+-- it is turned away by one refusal
+pub one-refusal : {q r : PlayRefusal} → TurnedAway q ≡ TurnedAway r → q ≡ r
 one-refusal e = cc
 
 module _ (t : ℕ) (o : Option ℕ) where

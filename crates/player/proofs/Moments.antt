@@ -25,7 +25,8 @@ use Rattle.plays.specs.declared.Entry.{Entry}
 use Rattle.plays.proofs.States.{run-seen}
 use Rattle.plays.proofs.ScriptLegal.{script-legal}
 use Rattle.plays.proofs.ScriptFacts.{member-at, entry-in-set, behind-no-sooner}
-use Rattle.plays.proofs.OnePending.{Calm, released-alone, oldest-at-most}
+use Rattle.plays.specs.OnePending.{Calm}
+use Rattle.plays.proofs.OnePending.{released-alone, oldest-at-most}
 use Rattle.plays.proofs.ScriptLanes.{by-place-length, place-found, number-found}
 use Rattle.plays.specs.Says.{AllReleased}
 use Rattle.plays.proofs.AllDone.{done-is, undone-is}

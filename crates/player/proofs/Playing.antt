@@ -21,7 +21,7 @@ use Rattle.plays.specs.Script.{Script, no-entry}
 use Rattle.plays.specs.Play.{task-misses, misser, all-done, over, end-of-play, shown, shown-from}
 use Rattle.plays.specs.declared.Entry.{Entry}
 use Rattle.plays.proofs.ScriptFacts.{member-at, entry-in-set}
-use Rattle.plays.proofs.OnePending.{Calm}
+use Rattle.plays.specs.OnePending.{Calm}
 use Rattle.plays.proofs.PlayEnds.{not-over, still-on, over-by-miss, over-by-done, end-is, end-unique, before-end}
 use Rattle.scripts.specs.Reading.{entry-at}
 use Rattle.player.specs.State.{never, at-rest, released, picked-by, misser-in, shown-byte}

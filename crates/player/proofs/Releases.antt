@@ -25,7 +25,7 @@ use Rattle.plays.proofs.ScriptLegal.{entries-in-order}
 use Rattle.plays.proofs.ScriptFacts.{member-at, NoneAt, none-yet, none-more, entry-in-set, now-there, others-stay}
 use Rattle.plays.proofs.ScriptLanes.{task-of-number, seen-by-release}
 use Rattle.player.specs.State.{released}
-use Rattle.player.specs.Shows.{NoSooner, Slot, Shows, locks-of}
+use Rattle.player.specs.Shows.{Slot, ShowsJobs, Shows, locks-of}
 use Rattle.player.specs.declared.state.Player.{Player}
 use Rattle.player.proofs.Slots.{slot-released}
 use Rattle.player.proofs.Soonest.{sooner-released}
@@ -37,18 +37,12 @@ released-of order sc t p e = rw e
 
 module _ (order : List ℕ) (tasks : List Task) (sc : Script) where
   -- the lane of task i with the releases of tick t that are among the first j entries
-  abbrev lane-with : ℕ → State → ℕ → ℕ → Lane
+  abbrev pub lane-with : ℕ → State → ℕ → ℕ → Lane
   lane-with t s j i = release-lane (task-at tasks i) t (work-of (entry-of (take j (sc .entries)) i t)) (s .lanes (place-of order i))
 
   -- the player's state shows the run's with these releases seen
-  pub record Seeing (t : ℕ) (s : State) (j : ℕ) (player : Player) : Type 0 where
-    pub slots : (i : ℕ) → i < length tasks → Slot tasks sc player i (lane-with t s j i .jobs)
-    pub coming : player .«to_come» ≡ s .to-come
-    pub holder : 1 ≤ s .to-come → number-at order (s .owner) ≡ player .picked
-    pub no-sooner : NoSooner (player .soonest) (length tasks) (player .left) (player .due)
-    pub left-room : length (player .left) ≡ most-tasks
-    pub due-room : length (player .due) ≡ most-tasks
-    pub lock-room : length (player .lock) ≡ most-tasks
+  abbrev pub Seeing : ℕ → State → ℕ → Player → Type 0
+  Seeing t s j player = ShowsJobs order tasks sc (λ i. lane-with t s j i .jobs) s player
 
   nothing-released : {o : Option Entry} (t i : ℕ) (l : Lane) → o ≡ none → release-lane (task-at tasks i) t (work-of o) l ≡ l
   unfolding release-lane work-of

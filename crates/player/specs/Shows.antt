@@ -31,12 +31,16 @@ Slot tasks sc player i jobs =
 abbrev pub NoSooner : ℕ → ℕ → List ℕ → List ℕ → Type 0
 NoSooner soonest n left due = (i : ℕ) → i < n → 1 ≤ getD left i 0 → soonest ≤ getD due i 0
 
--- the player's state shows the run's: slot by slot, the stretch under way with the task that has it, and the moment before which no task can miss
-pub record Shows (order : List ℕ) (tasks : List Task) (sc : Script) (s : State) (player : Player) : Type 0 where
-  pub slots : (i : ℕ) → i < length tasks → Slot tasks sc player i (s .lanes (place-of order i) .jobs)
+-- the player's state shows these jobs of each task, the stretch under way with the task that has it, and a moment before which no task can miss
+pub record ShowsJobs (order : List ℕ) (tasks : List Task) (sc : Script) (jobs-of : ℕ → List Job) (s : State) (player : Player) : Type 0 where
+  pub slots : (i : ℕ) → i < length tasks → Slot tasks sc player i (jobs-of i)
   pub coming : player .«to_come» ≡ s .to-come
   pub holder : 1 ≤ s .to-come → number-at order (s .owner) ≡ player .picked
   pub no-sooner : NoSooner (player .soonest) (length tasks) (player .left) (player .due)
   pub left-room : length (player .left) ≡ most-tasks
   pub due-room : length (player .due) ≡ most-tasks
   pub lock-room : length (player .lock) ≡ most-tasks
+
+-- the player's state shows the run's
+abbrev pub Shows : List ℕ → List Task → Script → State → Player → Type 0
+Shows order tasks sc s player = ShowsJobs order tasks sc (λ i. s .lanes (place-of order i) .jobs) s player

@@ -1,4 +1,4 @@
--- Scripts played by computation: case F in exactly its response time, case G's worst run, two tasks that lock, two tasks that miss at one moment, and an entry out of order.
+-- Scripts played by computation: case F in exactly its response time, two tasks that lock, case G's worst run, two tasks that miss at one moment, no entry and no work.
 use mathlib.Core.List.{List, [], _∷_}
 use mathlib.Core.Option.{none, some}
 use mathlib.Core.Path.{_≡_, refl}
@@ -45,6 +45,19 @@ exactly-4-is : (first-refusal (item-checks (two 3) exactly-4) ≡ none) × (end-
 unfolding plays
 exactly-4-is = (refl, refl, refl, refl)
 
+-- ---- two tasks that lock: a higher task waits for a stretch, a stretch starts anew, and one ends with its job
+
+abbrev locking : List Task
+locking = record { period = 8; deadline = 7; lock = 2; frames = 3 ∷ 2 ∷ [] } ∷ record { period = 20; deadline = 20; lock = 3; frames = 7 ∷ [] } ∷ []
+
+abbrev two-locks : Script
+two-locks = record { firsts = 0 ∷ 0 ∷ []; entries = at 1 0 7 3 ∷ at 0 2 3 2 ∷ at 0 10 2 2 ∷ [] }
+
+two-locks-is : (first-refusal (item-checks locking two-locks) ≡ none) × (end-of-play listed locking two-locks ≡ 12) × (misser listed locking two-locks 12 ≡ none)
+    × (shown-from listed locking two-locks 0 12 ≡ 33 ∷ 33 ∷ 33 ∷ 32 ∷ 32 ∷ 32 ∷ 33 ∷ 33 ∷ 33 ∷ 33 ∷ 32 ∷ 32 ∷ [])
+unfolding plays
+two-locks-is = (refl, refl, refl, refl)
+
 -- ---- case G: the worst run of task 0
 
 abbrev worst-of-g : Script
@@ -75,9 +88,3 @@ ends-at : let none-at-all : Script = record { firsts = 0 ∷ 0 ∷ []; entries =
     (end-of-play listed (two 3) none-at-all ≡ 0) × (end-of-play listed (two 3) no-work ≡ 3)
 unfolding plays
 ends-at = (refl, refl)
-
--- ---- out of order: of the same tick task 1 before task 0, item 3
-
-out-of-order : let sc : Script = record { firsts = 0 ∷ 0 ∷ []; entries = at 1 0 5 0 ∷ at 0 0 2 0 ∷ [] } in first-refusal (item-checks (two 3) sc) ≡ some 3
-unfolding plays
-out-of-order = refl

@@ -13,13 +13,14 @@ use lib.ListN.{length}
 use Rattle.theory.specs.Tasks.{Task, task-at, deadline-of, Admitted}
 use Rattle.theory.specs.Runs.{Job, job, Lane, release-lane, oldest-left, serve, serve-lane, Legal}
 use Rattle.theory.proofs.Search.{bool-cases, first-none}
-use Rattle.theory.proofs.Lanes.{total, total-append, serve-total-le, Unfinished, unfinished-serve}
+use Rattle.theory.proofs.Lanes.{total, total-append, oldest-none, serve-total-le, Unfinished, unfinished-serve}
 use Rattle.order.specs.Claims.{Permutes}
 use Rattle.analysis.specs.Times.{number-at, place-of}
 use Rattle.analysis.proofs.Numbering.{place-back}
 use Rattle.plays.specs.Script.{Script, entry-of}
 use Rattle.plays.specs.ScriptRun.{by-place, lock-of, released-at, pending-lock, script-state, script-run}
 use Rattle.plays.specs.Play.{misses-now, script-seen, task-misses, misser}
+use Rattle.plays.specs.OnePending.{Calm, AtMostOne, nothing-left, one-left}
 use Rattle.plays.proofs.ScriptLanes.{number-found, task-of-number, by-place-admitted, seen-by-release, state-by-serve, no-first-jobs, seen-job, deadline-positive, deadline-short, script-next-in, released-apart, known}
 
 -- ---- a miss at a moment
@@ -73,11 +74,6 @@ module _ (task : Task) (t : ℕ) where
       go (inr m) later = misses-left r′ k′ w′ js ∙ rw (later m due) (or-true (eqb (r′ + deadline-of task k′) t))
 
 -- ---- lists of jobs of which at most one has work left, the last
-
--- nothing has work left, or the last job alone has
-pub data AtMostOne (js : List Job) : Type 0 where
-  nothing-left : total js ≡ 0 → AtMostOne js
-  one-left : (older : List Job) (r k w : ℕ) → total older ≡ 0 → js ≡ older ++ (job r k (suc w) ∷ []) → AtMostOne js
 
 -- no job with work left: no work
 pub none-left : (js : List Job) → Unfinished (λ r k. ⊥) js → total js ≡ 0
@@ -163,30 +159,26 @@ module _ (older : List Job) (r k w : ℕ) (e : total older ≡ 0) where
 
 -- after a release with nothing left
 pub one-released : (js : List Job) (r k w : ℕ) → total js ≡ 0 → AtMostOne (js ++ (job r k w ∷ []))
-one-released js r k zero e = nothing-left (omega (arith, total-append js r k 0))
-one-released js r k (suc w) e = one-left js r k w e refl
+one-released js r k zero e = nothing-left (nothing-oldest (js ++ (job r k 0 ∷ [])) (omega (arith, total-append js r k 0)))
+one-released js r k (suc w) e = one-left js r k w (nothing-oldest js e) refl
 
 -- after a tick of work
 pub one-served : (js : List Job) → AtMostOne js → AtMostOne (serve js)
-one-served js (nothing-left e) = nothing-left (omega (arith, serve-total-le js))
-one-served js (one-left older r k w e same) = rw (same, one-left-served older r k w e) (one-released older r k w e)
+one-served js (nothing-left e) = nothing-left (nothing-oldest (serve js) (omega (arith, serve-total-le js, oldest-none js e)))
+one-served js (one-left older r k w e same) = let none = oldest-none older e in rw (same, one-left-served older r k w none) (one-released older r k w none)
 
 one-served-lane : (b : Bool) (l : Lane) → AtMostOne (l .jobs) → AtMostOne (serve-lane b l .jobs)
 unfolding serve-lane
 one-served-lane false l one = one
 one-served-lane true l one = one-served (l .jobs) one
 
-no-work : total [] ≡ 0
-unfolding total
+no-work : oldest-left [] ≡ 0
+unfolding oldest-left
 no-work = refl
 
 -- ---- before the first miss
 
 module _ (order : List ℕ) (tasks : List Task) (sc : Script) where
-  -- no task misses up to moment t
-  abbrev pub Calm : ℕ → Type 0
-  Calm t = (u : ℕ) → u ≤ t → misser order tasks sc u ≡ none
-
   module _ (permutes : Permutes (length tasks) order) where
     -- a task misses where a job of its lane does
     pub misses-in-lane : (t i : ℕ) → i < length tasks
@@ -225,7 +217,7 @@ module _ (order : List ℕ) (tasks : List Task) (sc : Script) where
               omega (arith, deadline-positive order tasks sc by-set legal p in-order k (rw next (script-next-in order tasks sc by-set legal p in-order t)))
 
       -- before the first miss every job with work left is due later
-      pub due-later : (t : ℕ) → Calm t → Unfinished (Due t) (script-state order tasks sc t .lanes p .jobs)
+      pub due-later : (t : ℕ) → Calm order tasks sc t → Unfinished (Due t) (script-state order tasks sc t .lanes p .jobs)
       due-later zero calm r k w m = absurd (List·Memᴰ·not-nil (subst (List·Memᴰ (job r k (suc w))) (no-first-jobs order tasks sc p) m))
       due-later (suc t) calm r k w m =
           let (b, e) = state-by-serve order tasks sc t p in
@@ -236,11 +228,11 @@ module _ (order : List ℕ) (tasks : List Task) (sc : Script) where
           omega arith
 
       -- the same with the releases of the tick seen
-      pub seen-due-later : (t : ℕ) → Calm t → Unfinished (Due t) (script-seen order tasks sc t .lanes p .jobs)
+      pub seen-due-later : (t : ℕ) → Calm order tasks sc t → Unfinished (Due t) (script-seen order tasks sc t .lanes p .jobs)
       seen-due-later t calm = still-due t (due-later t calm)
 
       -- a task is released with nothing of it pending
-      pub released-alone : (t : ℕ) → Calm t → {v : ℕ} → released-at order sc t p ≡ some v → total (script-state order tasks sc t .lanes p .jobs) ≡ 0
+      pub released-alone : (t : ℕ) → Calm order tasks sc t → {v : ℕ} → released-at order sc t p ≡ some v → total (script-state order tasks sc t .lanes p .jobs) ≡ 0
       released-alone t calm e = none-left (script-state order tasks sc t .lanes p .jobs) over-due
         where
           over-due : Unfinished (λ r k. ⊥) (script-state order tasks sc t .lanes p .jobs)
@@ -254,7 +246,7 @@ module _ (order : List ℕ) (tasks : List Task) (sc : Script) where
                 due-later t calm r k w m,
               )
 
-      one-seen : (t : ℕ) → Calm t → AtMostOne (script-state order tasks sc t .lanes p .jobs) → AtMostOne (script-seen order tasks sc t .lanes p .jobs)
+      one-seen : (t : ℕ) → Calm order tasks sc t → AtMostOne (script-state order tasks sc t .lanes p .jobs) → AtMostOne (script-seen order tasks sc t .lanes p .jobs)
       unfolding release-lane
       one-seen t calm one = rw (seen-by-release order tasks sc t p) (go (released-at order sc t p) refl)
         where
@@ -264,13 +256,13 @@ module _ (order : List ℕ) (tasks : List Task) (sc : Script) where
           go (some v) e = one-released (script-state order tasks sc t .lanes p .jobs) t (script-state order tasks sc t .lanes p .next) v (released-alone t calm e)
 
       -- at most one job of the task is pending
-      pub one-pending : (t : ℕ) → Calm t → AtMostOne (script-state order tasks sc t .lanes p .jobs)
+      pub one-pending : (t : ℕ) → Calm order tasks sc t → AtMostOne (script-state order tasks sc t .lanes p .jobs)
       one-pending zero calm = nothing-left (rw (no-first-jobs order tasks sc p) no-work)
       one-pending (suc t) calm =
           let (b, e) = state-by-serve order tasks sc t p in
-          let before : Calm t = λ u h. calm u (omega arith) in
+          let before : Calm order tasks sc t = λ u h. calm u (omega arith) in
           rw e (one-served-lane b (script-seen order tasks sc t .lanes p) (one-seen t before (one-pending t before)))
 
       -- the same with the releases of the tick seen
-      pub one-pending-seen : (t : ℕ) → Calm t → AtMostOne (script-seen order tasks sc t .lanes p .jobs)
+      pub one-pending-seen : (t : ℕ) → Calm order tasks sc t → AtMostOne (script-seen order tasks sc t .lanes p .jobs)
       one-pending-seen t calm = one-seen t calm (one-pending t calm)

@@ -21,7 +21,8 @@ use Rattle.plays.specs.ScriptRun.{by-place, script-run}
 use Rattle.plays.specs.Says.{AllReleased}
 use Rattle.plays.specs.Play.{script-seen, misser, all-done, over, end-of-play}
 use Rattle.plays.proofs.ScriptLanes.{by-place-at, number-found, by-place-admitted, known-seen}
-use Rattle.plays.proofs.OnePending.{none-left, Calm, seen-due-later}
+use Rattle.plays.specs.OnePending.{Calm}
+use Rattle.plays.proofs.OnePending.{none-left, seen-due-later}
 use Rattle.plays.proofs.AllDone.{released-by, Done, done-is}
 
 module _ (order : List ℕ) (tasks : List Task) (sc : Script) where

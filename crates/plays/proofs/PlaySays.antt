@@ -23,7 +23,8 @@ use Rattle.plays.specs.Says.{AllReleased, Later, MissIn, MissAt, FirstMi
 use Rattle.plays.specs.Play.{misses-now, script-seen, task-misses, misser, all-done, over, end-of-play}
 use Rattle.plays.proofs.States.{run-seen}
 use Rattle.plays.proofs.ScriptLanes.{place-found, number-found, by-place-admitted, seen-job, job-stays, deadline-positive, script-next-in, known, known-seen}
-use Rattle.plays.proofs.OnePending.{Calm, none-left, some-left, misses-job, job-misses, misses-in-lane}
+use Rattle.plays.specs.OnePending.{Calm}
+use Rattle.plays.proofs.OnePending.{none-left, some-left, misses-job, job-misses, misses-in-lane}
 use Rattle.plays.proofs.AllDone.{Done, Undone, done-is, undone-is, done-stays}
 use Rattle.plays.proofs.PlayEnds.{still-on, over-by-miss, over-by-done, over-calm, end-is, end-unique, before-end, calm-to-end}
 

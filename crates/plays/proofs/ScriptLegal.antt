@@ -1,18 +1,16 @@
--- The run of a script of which no item is turned away keeps the run rules; and each job of a script's run has its entry.
+-- The run of a script of which no item is turned away keeps the run rules.
 use mathlib.Core.Bool.{Bool, true, false, cond}
-use mathlib.Core.List.{List, [], _∷_, _++_, List·Memᴰ, List·Memᴰ·not-nil}
-use mathlib.Core.Logic.{_⊎_, inl, inr}
+use mathlib.Core.List.{List, [], _∷_, _++_}
 use mathlib.Core.Option.{Option, none, some, Option·none-ne-some, Option·some-injective}
 use mathlib.Core.Path.{_≡_, refl, sym, _∙_, ap}
 use Prim.Native.Nat.{ℕ, zero, suc, _+_, _≤_, _<_, zero-le}
-use native.Mathlib.Nat.{le-refl, le-trans, le-of-suc-le-suc, add-zero, zero-add, le-of-eq}
+use native.Mathlib.Nat.{le-refl, le-trans, le-of-suc-le-suc, add-zero, zero-add}
 use native.Mathlib.Omega.{arith}
 use borrow.Author.Tests.{not-false, ltb-true}
 use lib.Dec.{leb}
 use lib.ListN.{length, getD}
 use Rattle.theory.specs.Tasks.{Task, task-at, frame-count, frame}
-use Rattle.theory.specs.Runs.{Job, job, State, release, serve-lane, pick, longest-stretch, LegalTick, Legal}
-use Rattle.theory.proofs.Lanes.{serve-lane-mem}
+use Rattle.theory.specs.Runs.{Job, job, State, release, pick, longest-stretch, LegalTick, Legal}
 use Rattle.theory.proofs.Steps.{Picked, in-stretch, highest, idle, picked}
 use Rattle.lent.specs.Checks.{first-refusal}
 use Rattle.lent.proofs.Checks.{passed, both-passed}
@@ -22,10 +20,10 @@ use Rattle.analysis.proofs.Numbering.{number-in, place-back}
 use Rattle.plays.specs.Script.{Script, entry-of}
 use Rattle.plays.specs.declared.Entry.{Entry}
 use Rattle.plays.specs.Items.{first-ledger, first-frame-checks, entry-checks, item-checks}
-use Rattle.plays.specs.ScriptRun.{by-place, work-of, lock-of, pending-lock, stretch-by, stretch-at, new-stretch, choice, script-state, script-run, released-at}
+use Rattle.plays.specs.ScriptRun.{by-place, work-of, lock-of, pending-lock, stretch-by, stretch-at, new-stretch, choice, script-state, script-run}
 use Rattle.plays.specs.Play.{script-seen}
 use Rattle.plays.proofs.States.{run-state, run-seen}
-use Rattle.plays.proofs.ScriptLanes.{by-place-length, by-place-at, state-by-serve, no-first-jobs, seen-job}
+use Rattle.plays.proofs.ScriptLanes.{by-place-length, by-place-at}
 use Rattle.plays.proofs.Ledgers.{InOrder, Sound, after-entries, entry-found, releases, ledger-is-lane, each-sound, checked-in-order}
 
 -- first frames of which none is turned away, of the tasks from task a on, are frames of their tasks
@@ -170,44 +168,3 @@ module _ (order : List ℕ) (tasks : List Task) (sc : Script) (permutes : Permut
   pub script-legal : first-refusal (item-checks tasks sc) ≡ none → (n : ℕ) → Legal (by-place order tasks) (script-run order tasks sc n)
   script-legal kept n =
       record { first-frames = first-kept order tasks sc permutes kept as-many n; each-tick = λ t _. tick-kept order tasks sc permutes kept n t }
-
--- ---- the jobs of a script's run
-
--- a job of task i that was released at tick r and has so much work left has its entry in the script, with that much work or more
-pub record HasEntry (sc : Script) (i r left : ℕ) : Type 0 where
-  pub entry : Entry
-  pub stands : entry-of (sc .entries) i r ≡ some entry
-  pub no-more : left ≤ entry .work
-
-module _ (order : List ℕ) (tasks : List Task) (sc : Script) where
-  -- the jobs were released before tick t, each by an entry of the script
-  abbrev Entered : ℕ → ℕ → List Job → Type 0
-  Entered t p js = (r k left : ℕ) → List·Memᴰ (job r k left) js → (r < t) × HasEntry sc (number-at order p) r left
-
-  released-entered : (t p : ℕ) → Entered t p (script-state order tasks sc t .lanes p .jobs) → Entered (suc t) p (script-seen order tasks sc t .lanes p .jobs)
-  unfolding released-at
-  released-entered t p before r k left m = go (seen-job order tasks sc t p m)
-    where
-      go : List·Memᴰ (job r k left) (script-state order tasks sc t .lanes p .jobs)
-          ⊎ ((r ≡ t) × (k ≡ script-state order tasks sc t .lanes p .next) × (released-at order sc t p ≡ some left))
-          → (r < suc t) × HasEntry sc (number-at order p) r left
-      go (inl n) = let (earlier, has) = before r k left n in (omega arith, has)
-      go (inr (now, _, work)) =
-          let (e, there, same) = work-some {o = entry-of (sc .entries) (number-at order p) t} work in
-          (omega arith, record { entry = e; stands = rw now there; no-more = le-of-eq (sym same) })
-
-  -- each job in a lane was released before, and has its entry
-  pub jobs-have-entries : (t p r k left : ℕ) → List·Memᴰ (job r k left) (script-state order tasks sc t .lanes p .jobs) → (r < t) × HasEntry sc (number-at order p) r left
-  jobs-have-entries zero p r k left m = absurd (List·Memᴰ·not-nil (rw (no-first-jobs order tasks sc p) at m))
-  jobs-have-entries (suc t) p r k left m = go (state-by-serve order tasks sc t p) (released-entered t p (jobs-have-entries t p))
-    where
-      go : (b : Bool) × (script-state order tasks sc (suc t) .lanes p ≡ serve-lane b (script-seen order tasks sc t .lanes p))
-          → Entered (suc t) p (script-seen order tasks sc t .lanes p .jobs) → (r < suc t) × HasEntry sc (number-at order p) r left
-      go (b, step) seen =
-          let (v, n, more) = serve-lane-mem b (script-seen order tasks sc t .lanes p) (rw step at m) in
-          let (earlier, has) = seen r k v n in
-          (earlier, record { entry = has .entry; stands = has .stands; no-more = le-trans more (has .no-more) })
-
-  -- the same with the releases of tick t seen
-  pub seen-jobs-have-entries : (t p r k left : ℕ) → List·Memᴰ (job r k left) (script-seen order tasks sc t .lanes p .jobs) → (r ≤ t) × HasEntry sc (number-at order p) r left
-  seen-jobs-have-entries t p r k left m = let (earlier, has) = released-entered t p (jobs-have-entries t p) r k left m in (omega arith, has)

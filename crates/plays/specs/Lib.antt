@@ -6,4 +6,5 @@ pub mod OfScript
 pub mod Broken
 pub mod Play
 pub mod Says
+pub mod OnePending
 pub mod WorstScript

@@ -20,12 +20,9 @@ use Rattle.player.specs.declared.PlayRefusal.the-variants.{Base}
 use Rattle.player.specs.declared.Played.the-variants.{TurnedAway}
 use Rattle.player.proofs.Playing.{shown-length, shown-at}
 use Rattle.player.proofs.Ways.{played-turned, played-ends, Traced, not-played, no-room, is-traced, trace-way}
-use Rattle.player.proofs.Exactly.{turned-exactly, own-exactly, form-exactly, item-exactly, run-of-set, run-of-script, missed-exactly, done-exactly}
+use Rattle.player.proofs.Exactly.{one-refusal, turned-exactly, own-exactly, form-exactly, item-exactly, run-of-set, run-of-script, missed-exactly, done-exactly}
 use Rattle.signed.specs.Plays.{PlaySigned, ticks-said, TraceSigned}
 use Rattle.signed.proofs.Read.{admitted-is, refused-is, not-for-room, behind-laid}
-
-one-refusal : {q r : PlayRefusal} → TurnedAway q ≡ TurnedAway r → q ≡ r
-one-refusal e = cc
 
 module _ (sheet script : List ℕ) where
   -- ---- a play

@@ -1,5 +1,5 @@
 // The worst run of a missed set, written as a run script.
-ghost use mathlib.Core.List.{[], map};
+ghost use mathlib.Core.List.{map};
 ghost use mathlib.Core.Path.{_≡_};
 ghost use Prim.Native.Nat.{_+_, _≤_, _<_};
 ghost use lib.ListN.{length};
@@ -22,9 +22,9 @@ ghost use Rattle.analysis.specs.Inside.Steps.{ShapesStand, numbers-of};
 ghost use Rattle.analysis.specs.declared.Miss.the-variants.{Frame};
 ghost use Rattle.scripts.specs.Format.{entry-widths};
 ghost use Rattle.scripts.specs.Writing.{entry-numbers, entries-bits, script-of, EntryFits};
-ghost use Rattle.worst.specs.Writing.{writing-by, worst-answer, worst-left};
+ghost use Rattle.worst.specs.Writing.{worst-answer, worst-left};
 ghost use Rattle.worst.specs.Inside.Plans.{series-for, role-by, work-with, releases-to, SoundPlan, plan-entries, plan-script, head-bits};
-ghost use Rattle.worst.specs.Inside.Steps.{Soonest, PlanFor};
+ghost use Rattle.worst.specs.Inside.Steps.{Soonest, PlanFor, set-writing};
 ghost use Rattle.worst.specs.declared.Worst.the-variants.{TurnedAway};
 use admission::Shape;
 use analysis::Miss;
@@ -282,7 +282,7 @@ fn write_frame(
     script: &mut [u8],
 ) -> Worst
     requires { ⌜ (admission set ≡ Admitted) × (shapes ≡ shapes-of (map task-in (records-of set))) × (miss-in (ordered-set (set .policy) (map task-in (records-of set))) ≡ Frame p k) ⌝ }
-    ensures { λ r. ⌜ (r ≡ answered Room TurnedAway (writing-by [] (set .policy) (map task-in (records-of set))) (now (script .entry))) × (now (script .exit) ≡ left-after Room (writing-by [] (set .policy) (map task-in (records-of set))) (now (script .entry))) ⌝ }
+    ensures { λ r. ⌜ (r ≡ answered Room TurnedAway (set-writing set) (now (script .entry))) × (now (script .exit) ≡ left-after Room (set-writing set) (now (script .entry))) ⌝ }
 {
     let o = order::in_order(set);
     let tasks = set.tasks;
@@ -307,7 +307,7 @@ fn write_frame(
 // A set that holds is answered so, whatever the room.
 fn write_set(set: TaskSet, shapes: [Shape; Sheet::TASK_ROOM], script: &mut [u8]) -> Worst
     requires { ⌜ (admission set ≡ Admitted) × (shapes ≡ shapes-of (map task-in (records-of set))) ⌝ }
-    ensures { λ r. ⌜ (r ≡ answered Room TurnedAway (writing-by [] (set .policy) (map task-in (records-of set))) (now (script .entry))) × (now (script .exit) ≡ left-after Room (writing-by [] (set .policy) (map task-in (records-of set))) (now (script .entry))) ⌝ }
+    ensures { λ r. ⌜ (r ≡ answered Room TurnedAway (set-writing set) (now (script .entry))) × (now (script .exit) ≡ left-after Room (set-writing set) (now (script .entry))) ⌝ }
 {
     match analysis::missed_frame(set) {
         Miss::Nothing => Worst::Holds,

@@ -67,16 +67,15 @@ finding-with number blocked t passes times =
       times = times;
     }
 
--- .. by the tasks above it and its blocking
-unfoldable pub finding-to : List Higher → ℕ → ℕ → Record → Finding
-finding-to above number blocked r =
-    let t = task-in r in
-    let pass = is-there (response-to above blocked (largest (t .frames)) (shortest-deadline t)) in
-    finding-with number blocked t pass (slots-by pass (times-to above blocked r))
-
 -- whether a task passes, by the tasks above it and its blocking
 unfoldable pub passes-to : List Higher → ℕ → Record → Bool
 passes-to above blocked r = let t = task-in r in is-there (response-to above blocked (largest (t .frames)) (shortest-deadline t))
+
+-- what is found of it by these
+unfoldable pub finding-to : List Higher → ℕ → ℕ → Record → Finding
+finding-to above number blocked r =
+    let pass = passes-to above blocked r in
+    finding-with number blocked (task-in r) pass (slots-by pass (times-to above blocked r))
 
 -- its first frame without a response time
 unfoldable pub without-to : List Higher → ℕ → Record → ℕ
