@@ -109,7 +109,7 @@ fn range(options: &DrawOptions, end: u32) -> Result<(u32, u32), Trouble> {
     let (from, to) = (options.from_tick.unwrap_or(0), options.to_tick.unwrap_or(end).min(end));
     let usage = |words: String| Err(Trouble::Usage(words));
     match options.from_tick {
-        Some(from) if end == 0 => usage(format!("--from {from}: no tick is played in this run")),
+        Some(from) if end == 0 && from > 0 => usage(format!("--from {from}: no tick is played in this run")),
         _ if end == 0 => Ok((0, 0)),
         _ if from >= end => usage(format!("--from {from} is not before the end of the run, {end}: its ticks are 0 to {}", end - 1)),
         _ => Ok((from, to)),

@@ -155,7 +155,7 @@ const OTHERS: &str = "  burrbeech help [VERB]                                   
 ";
 
 const COMMON: &str =
-    "No FILE, or `-`, is standard input; SHEET, SCRIPT and TEXT must be given, and one of them may be `-`. `--` ends the options.
+    "No FILE, or `-`, is standard input; SHEET and TEXT must be given, and SCRIPT but for `draw`; one may be `-`. `--` ends the options.
 Times are ticks; tasks and frames count from 0.
 
 Exit status, the worst deciding: 0 all hold (or: done), 1 some missed, 2 some refused, 3 usage or input/output.
@@ -308,7 +308,7 @@ Exit status: 0 written, 2 the sheet or the script is refused, 3 the text is no s
 const SCRIPT_SHOW: &str = "Prints the text that `script compose` reads; composed, it gives the same bytes again. Of a refused script it prints what can be read, with
 the fault marked by `<==`; the first line is then `refused` and the number, which no text has. `script compose` takes it when the fault is
 mended and that line and the mark, with what follows it, are deleted. Entries that the count says and the bytes have not are a last line
-`missing`, which `script compose` does not take.
+`missing`, bytes behind those that it says a last line `surplus`; `script compose` takes neither.
 
   --json  prints one object:
   {\"file\":SCRIPT,\"sheet\":SHEET,\"admitted\":true,\"tasks\":COUNT,\"first_frames\":[...],\"entries\":COUNT,

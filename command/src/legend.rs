@@ -4,6 +4,7 @@ use crate::svg::{arrow, cross, px, Anchor, Svg, IDLE, INK, LOCKED, MISS, RUNS, S
 
 /// What a picture has beside what every picture can have.
 pub struct Legend {
+    pub frames: bool,
     pub shares: bool,
     pub strokes: bool,
     pub parted: bool,
@@ -72,6 +73,9 @@ impl Legend {
         let mut notes = vec![
             "Highest priority on top. T period, D deadline, Q lock. Tick k is the space from k to k + 1. Pale lines stand at numbered moments.",
         ];
+        if self.frames {
+            notes.push("A release of a task that has several frames has its job's frame beside it, where there is room.");
+        }
         if self.parted {
             notes.push("White lines part the ticks of a box.");
         }
@@ -79,7 +83,7 @@ impl Legend {
             notes.push(
                 "Where a tick is narrower than a pixel, the height of a colour is its share of the pixel's ticks; a share of less than a line \
                  cannot be seen. The line under a lane has its full height from one tick on, in the colour of a locked tick if there is one, \
-                 else of a running one, else of a waiting one.",
+                 else of a running one, else of a waiting one, in that of an idle one under the idle lane.",
             );
         }
         notes

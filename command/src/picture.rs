@@ -47,6 +47,7 @@ impl Picture<'_> {
     fn legend(&self, panels: &[Panel]) -> Legend {
         let missed = self.course.play.missed.is_some() && self.to == self.course.play.tick;
         Legend {
+            frames: self.course.findings.set.tasks.iter().any(|task| task.frames.len() > 1),
             shares: panels.iter().any(Panel::is_dense),
             strokes: panels.iter().any(Panel::uses_strokes),
             parted: panels.iter().any(Panel::is_parted),

@@ -1,5 +1,4 @@
 //! `script compose`: a run script from its text. The command packs and seals the bytes, the library judges them.
-use crate::answers::refusal_line;
 use crate::delivery::Made;
 use crate::input::{self, Pipes};
 use crate::library;
@@ -20,7 +19,7 @@ pub fn run(sheet: &Name, text: &Name, to: Option<&Name>, output: &mut Output) ->
     let set = match library::read(&sheet_bytes)? {
         Ok(set) => set,
         Err(refusal) => {
-            tell(&format!("{}\n{}", refusal_line(sheet, refusal), swapped_line(text)?));
+            tell(&(explain::refused_sheet(false, sheet, refusal, &sheet_bytes)? + &swapped_line(text)?));
             return Ok(Status::Refused);
         }
     };

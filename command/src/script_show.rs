@@ -7,13 +7,13 @@ use crate::names::Name;
 use crate::output::Output;
 use crate::play_json;
 use crate::plays::{self, Refused, ScriptRefusal};
-use crate::script::{Entry, Script, MOST_BYTES};
+use crate::script::{length, Entry, Script, MOST_BYTES};
 use crate::script_faults::{self, bytes_words, Part, ScriptFault};
-use crate::script_text::{self, Widths, MISSING};
+use crate::script_text::{self, Widths, MISSING, SURPLUS};
 use crate::set::Set;
 use crate::status::{Status, Trouble};
 use crate::table::MARK;
-use crate::words::{self, entries, UNITS};
+use crate::words::{self, counted, entries, UNITS};
 
 pub fn run(json: bool, sheet: &Name, script: &Name, output: &mut Output) -> Result<Status, Trouble> {
     let mut pipes = Pipes::default();
@@ -77,14 +77,19 @@ fn entry_object(entry: Entry) -> String {
     Object::new().number("task", task).number("tick", tick).number("work", work).number("lock", lock).close()
 }
 
-/// Entries that the count says and the bytes have not: a line that `script compose` refuses, comment or not.
-fn put_missing(script: &Script, output: &mut Output) -> Result<(), Trouble> {
+/// Entries that the count says and the bytes have not, or bytes behind those that it says: a line that `script compose` refuses, comment or not.
+fn put_apart(script: &Script, bytes: &[u8], output: &mut Output) -> Result<(), Trouble> {
     let (count, there) = (script.count(), script.entries_there());
-    if there == count {
-        return Ok(());
-    }
-    let words = format!("the count says {}, the bytes have {there}", entries(count));
-    output.put(format!("{MISSING} {}   # {MARK} {words}\n", entries(count - there)).as_bytes())
+    let behind = bytes.len().saturating_sub(length(script.tasks(), count));
+    let (what, words) = match (count - there, behind) {
+        (0, 0) => return Ok(()),
+        (0, _) => {
+            let more = counted(behind as u64, "byte") + if bytes.len() > MOST_BYTES { " or more" } else { "" };
+            (format!("{SURPLUS} {more}"), format!("the count says {}, the bytes go on behind", entries(count)))
+        }
+        (missing, _) => (format!("{MISSING} {}", entries(missing)), format!("the count says {}, the bytes have {there}", entries(count))),
+    };
+    output.put(format!("{what}   # {MARK} {words}\n").as_bytes())
 }
 
 /// What can be read, with the fault marked. The first line is no comment, so that nobody composes it unawares.
@@ -109,7 +114,7 @@ fn put_refused(refusal: ScriptRefusal, fault: &ScriptFault, bytes: &[u8], set: &
     for (number, entry) in script.entries().enumerate() {
         output.put(format!("{}{}\n", widths.row(entry), mark_item(tasks + number)).as_bytes())?;
     }
-    put_missing(&script, output)?;
+    put_apart(&script, bytes, output)?;
     match (script.fill(), fault.of_part(Part::Fill)) {
         (Some(fill), Some(_)) => output.put(format!("# fill bits {fill}{}\n", mark(Part::Fill)).as_bytes()),
         _ => Ok(()),

@@ -10,6 +10,9 @@ const FIRST_FRAMES: &str = "first-frames";
 /// The word before what a refused script has not.
 pub const MISSING: &str = "missing";
 
+/// The word before what a refused script has behind its entries.
+pub const SURPLUS: &str = "surplus";
+
 /// The names of the columns, which the text must have in this order.
 const COLUMNS: [&str; 4] = ["task", "tick", "work", "lock"];
 
@@ -118,8 +121,13 @@ fn first_frames(words: &[&[u8]], tasks: usize) -> Result<Vec<u32>, String> {
 
 /// Task, tick, work and lock.
 fn row(words: &[&[u8]]) -> Result<Entry, String> {
-    if words.first().is_some_and(|first| *first == MISSING.as_bytes()) {
-        return Err("this is what `script show` says of entries that a refused script has not: write them, then delete this line".to_string());
+    let of_refused = |what: &str| Err(format!("this is what `script show` says of {what}, then delete this line"));
+    match words.first() {
+        Some(first) if *first == MISSING.as_bytes() => return of_refused("entries that a refused script has not: write them"),
+        Some(first) if *first == SURPLUS.as_bytes() => {
+            return of_refused("bytes that a refused script has behind the entries of its count: write the entries that they are, if any")
+        }
+        _ => {}
     }
     let [task, tick, work, lock] = words else {
         return Err(format!("{} here: an entry has four, {}", counted(words.len() as u64, "word"), COLUMNS.join(", ")));

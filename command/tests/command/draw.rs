@@ -295,7 +295,8 @@ fn a_run_without_ticks_is_drawn() {
             assert!(texts(&picture).contains(&words), "{words}");
         }
         assert_eq!(shell(&folder.0, "\"$0\" draw s r --to 7").out, picture.as_bytes());
-        assert!(shell(&folder.0, "\"$0\" draw s r --from 0").failed(3).contains("--from 0: no tick is played in this run"));
+        assert_eq!(shell(&folder.0, "\"$0\" draw s r --from 0 -o p").done(0), format!("p: the run of r, no tick is played: {end}\n"));
+        assert!(shell(&folder.0, "\"$0\" draw s r --from 1").failed(3).contains("--from 1: no tick is played in this run"));
     }
 }
 

@@ -96,7 +96,8 @@ fn what_is_wrong_with_the_whole_is_marked() {
     let word = format!("the check word is EF2A, the bytes before it give {:02X}{:02X}", sealed[20], sealed[21]);
     assert_eq!(shown("g", &changed), [format!("# check word EF2A   # <== {word}")]);
     let length = "# length 23 bytes   # <== length 23 bytes: a script for 2 tasks whose count says 2 entries has 22";
-    assert_eq!(shown("g", &check_word::sealed(&[&good[..20], &[0]].concat())), [length]);
+    let surplus = "surplus 1 byte   # <== the count says 2 entries, the bytes go on behind";
+    assert_eq!(shown("g", &check_word::sealed(&[&good[..20], &[0]].concat())), [length, surplus]);
     let one = scripts::write(&Script { first_frames: vec![0], entries: Vec::new() });
     let filled = [&one[..3], &[one[3] | 1]].concat();
     let fill = "# fill bits 0001   # <== fill bits 0001 after the last entry: they must be 0";
@@ -106,15 +107,23 @@ fn what_is_wrong_with_the_whole_is_marked() {
     assert_eq!(both[2], "missing 1 entry   # <== the count says 2 entries, the bytes have 1");
 }
 
-/// Entries that were cut off are not dropped unawares, even where first line and marks are deleted.
+/// Entries that were cut off, or that the count leaves out, are not dropped unawares, even where first line and marks are deleted.
 #[test]
-fn a_cut_script_is_not_composed() {
+fn a_script_of_another_length_is_not_composed() {
     let folder = Folder::new("scripts-cut");
-    folder.file("cut", &std::fs::read(shipped_script("g-worst")).unwrap()[..20]);
-    let line = format!("\"$0\" script show '{0}' cut | sed -e 1d -e 's/ *# <==.*//' > t && \"$0\" script compose '{0}' t -o out", shipped_one("g"));
-    let said = shell(&folder.0, &line).failed(3).to_string();
-    assert!(said.contains("t:9: this is what `script show` says of entries that a refused script has not"), "{said}");
-    assert!(!folder.0.join("out").exists());
+    let good = std::fs::read(shipped_script("g-worst")).unwrap();
+    let counting = |count: u8| check_word::sealed(&[&[0, 0, 0, count], &good[4..20]].concat());
+    for (bytes, line, words) in [
+        (good[..20].to_vec(), 9, "entries that a refused script has not: write them, "),
+        (counting(1), 9, "bytes that a refused script has behind the entries of its count: write the entries that they are, if any, "),
+        (counting(0), 8, "bytes that a refused script has behind"),
+    ] {
+        folder.file("r", &bytes);
+        let run = format!("\"$0\" script show '{0}' r | sed -e 1d -e 's/ *# <==.*//' > t && \"$0\" script compose '{0}' t -o out", shipped_one("g"));
+        let said = shell(&folder.0, &run).failed(3).to_string();
+        assert!(said.contains(&format!("t:{line}: this is what `script show` says of {words}")), "{said}");
+        assert!(!folder.0.join("out").exists());
+    }
 }
 
 #[test]

@@ -11,8 +11,7 @@ use Rattle.plays.specs.Script.{Script, entry-of}
 use Rattle.plays.specs.ScriptRun.{lock-of}
 use Rattle.player.specs.declared.state.Player.{Player}
 
--- a slot shows the jobs of a task: none has work left, or only the youngest has, and the slot has that work, the moment by which it is due, and
--- the lock that goes with the tick of its release
+-- a slot shows the jobs of a task: none has work left, or the youngest alone has, and the slot has its work, its due moment and its lock
 pub data SlotShows (locks : ℕ → ℕ) (task : Task) (jobs : List Job) (left due lock : ℕ) : Type 0 where
   rests : oldest-left jobs ≡ 0 → left ≡ 0 → SlotShows locks task jobs left due lock
   works : (older : List Job) (r k w : ℕ) → oldest-left older ≡ 0 → jobs ≡ older ++ (job r k (suc w) ∷ []) → left ≡ suc w

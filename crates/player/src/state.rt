@@ -9,15 +9,16 @@ ghost use Rattle.player.specs.State.{due-with, soonest-due, at-rest, rel
 use plays::Entry;
 use sheet::Sheet;
 
-// Of each task by number its pending job: the work left (0: none is pending), the moment by which it is due, and its lock; a moment before
-// which no task can miss; the task that has the tick, or had the last one (16: none); and of a locked stretch under way, which is that
-// task's, the ticks still to come.
 pub struct Player {
+    // Of each task by number its pending job: the work left (0: none is pending), the moment by which it is due, and its lock.
     pub left: [u32; Sheet::TASK_ROOM],
     pub due: [u32; Sheet::TASK_ROOM],
     pub lock: [u32; Sheet::TASK_ROOM],
+    // No task can miss before this moment.
     pub soonest: u32,
+    // The task that has the tick, or had the last one (16: none).
     pub picked: u32,
+    // Of a locked stretch under way, which is that task's, the ticks still to come.
     pub to_come: u32,
 }
 

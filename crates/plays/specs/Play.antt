@@ -55,8 +55,7 @@ module _ (order : List ℕ) (tasks : List Task) (sc : Script) where
   unfoldable pub over : ℕ → Bool
   over t = found (misser t) || all-done t
 
-  -- the moment at which the play ends: the first at which it is over, looked for up to twice the greatest time, since a job is released by that time and
-  -- misses that much later at the latest
+  -- the first moment at which it is over: a job is released by the greatest time, and due that much later at the latest
   unfoldable pub end-of-play : ℕ
   end-of-play = Option·getD (first 0 (suc (2 * greatest-time)) over) 0
 

@@ -28,8 +28,7 @@ use sheet::Sheet;
 use sheet::Task;
 use sheet::TaskSet;
 
-// How a script is judged: every item is sound, the bytes are not made as a script is, or the first item that is turned away, first frames and
-// entries counted together from 0.
+// How a script is judged: sound, not made as a script is, or by the first item turned away, first frames and entries counted together from 0.
 pub enum Judgement {
     Sound,
     Malformed,
