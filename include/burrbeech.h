@@ -2,8 +2,10 @@
  *
  *     cc main.c $(pkg-config --cflags --libs burrbeech)
  *
- * A task sheet is 15 to 452 bytes of packed bits with a policy and 1 to 16 tasks. Tasks and frames count from 0, times
- * are ticks. A run script is packed bits too: the releases of a run of a sheet's set, see burrbeech_play.
+ * A task sheet is 15 to 732 bytes of packed bits with a policy and 1 to 16 tasks. In version 1 a task has one deadline
+ * for all its frames, in version 2 each frame has its own; every entry that takes a sheet takes both. Tasks and frames
+ * count from 0, times are ticks. A run script is packed bits too: the releases of a run of a sheet's set, see
+ * burrbeech_play.
  *
  * What a caller may pass: every byte string, every list, every number in every field and every size of buffer. What is
  * no sheet or no set is refused, by a number. A length counts the elements of its buffer: bytes, records or 32-bit
@@ -27,13 +29,13 @@
 
 /* The version, stated here and nowhere else. Until 1.0.0 a new minor version may change the entries. */
 #define BURRBEECH_VERSION_MAJOR 0
-#define BURRBEECH_VERSION_MINOR 3
-#define BURRBEECH_VERSION_PATCH 2
-#define BURRBEECH_VERSION "0.3.2"
+#define BURRBEECH_VERSION_MINOR 4
+#define BURRBEECH_VERSION_PATCH 0
+#define BURRBEECH_VERSION "0.4.0"
 
 /* Limits. */
 #define BURRBEECH_SHEET_MIN 15         /* bytes of the shortest sheet */
-#define BURRBEECH_SHEET_MAX 452        /* bytes of the longest sheet; of a file read one more, to refuse a longer one */
+#define BURRBEECH_SHEET_MAX 732        /* bytes of the longest sheet; of a file read one more, to refuse a longer one */
 #define BURRBEECH_TASKS_MAX 16         /* tasks of a set */
 #define BURRBEECH_FRAMES_MAX 8         /* frames of a task, and slots for its times */
 #define BURRBEECH_TICKS_MAX 1048575    /* the longest period, deadline, lock or frame time */
@@ -63,24 +65,32 @@ enum burrbeech_refusal_number {
     BURRBEECH_REFUSAL_LOCK = 10,          /* names a task */
     BURRBEECH_REFUSAL_NOT_MONOTONIC = 11, /* names a task, and says why it has no start frame */
     BURRBEECH_REFUSAL_ROOM = 12,
-    BURRBEECH_REFUSAL_SCRIPT = 13, /* of a run script: length, fill or check word */
-    BURRBEECH_REFUSAL_ITEM = 14    /* of a run script: names an item, a first frame or an entry */
+    BURRBEECH_REFUSAL_SCRIPT = 13,   /* of a run script: length, fill or check word */
+    BURRBEECH_REFUSAL_ITEM = 14,     /* of a run script: names an item, a first frame or an entry */
+    BURRBEECH_REFUSAL_DEADLINES = 17 /* of a set that is to be written in version 1 */
+};
+
+/* The versions of a sheet. */
+enum burrbeech_sheet_version {
+    BURRBEECH_SHEET_VERSION_1 = 1, /* one deadline for all frames of a task */
+    BURRBEECH_SHEET_VERSION_2 = 2  /* a deadline for each frame */
 };
 
 /* What puts the tasks in priority order; where keys are equal, the lower task number is higher. */
 enum burrbeech_policy_number {
     BURRBEECH_POLICY_LISTED = 0,            /* task 0 is highest */
     BURRBEECH_POLICY_RATE_MONOTONIC = 1,    /* the shorter period is higher */
-    BURRBEECH_POLICY_DEADLINE_MONOTONIC = 2 /* the shorter deadline is higher */
+    BURRBEECH_POLICY_DEADLINE_MONOTONIC = 2 /* the shorter deadline is higher; a task's smallest counts */
 };
 
-/* A task record. Slots of frames past frame_count are not read, and are 0 when a record is filled. */
+/* A task record: frame k has the time frames[k] and the deadline deadlines[k]. Slots past frame_count are not read, and
+ * are 0 when a record is filled. */
 struct burrbeech_task {
     uint32_t period;
-    uint32_t deadline;
     uint32_t lock;
     uint32_t frame_count;
     uint32_t frames[BURRBEECH_FRAMES_MAX];
+    uint32_t deadlines[BURRBEECH_FRAMES_MAX];
 };
 
 /* The record as the libraries were built with it, on a machine that they were built for. */
@@ -91,7 +101,7 @@ struct burrbeech_task {
 #else
 #define BURRBEECH_FACT(name, fact) typedef char name[(fact) ? 1 : -1]
 #endif
-BURRBEECH_FACT(burrbeech_task_has_48_bytes, sizeof(struct burrbeech_task) == 48);
+BURRBEECH_FACT(burrbeech_task_has_76_bytes, sizeof(struct burrbeech_task) == 76);
 BURRBEECH_FACT(burrbeech_size_has_8_bytes, sizeof(size_t) == 8);
 #undef BURRBEECH_FACT
 
@@ -110,8 +120,8 @@ extern "C" {
 
 /* Analyses a sheet and writes the response times as bytes: for a sheet of n tasks the first 32 * n bytes of times hold
  * eight times for each task in task-number order, frame by frame, four bytes each, high byte first;
- * burrbeech_check_time takes one. A slot without a frame holds 0, and so do all eight slots of a task that does not
- * pass.
+ * burrbeech_check_time takes one. A task passes if the response time of each frame is within that frame's deadline. A
+ * slot without a frame holds 0, and so do all eight slots of a task that does not pass.
  *
  * Answers 0 if the set holds; 1 to 12 for a refusal, by its number (12: times_len is below 32 * n); 100 + 17 * p + b if
  * task p misses with blocker b (16 for none), p being the first task in priority order that does not pass. The
@@ -131,17 +141,28 @@ BURRBEECH_ENTRY uint32_t burrbeech_check_sheet(const uint8_t *sheet, size_t shee
  * the shortest length at which another frame's sum is greater than that frame's, in bits 24 to 31 the lowest-numbered
  * such other frame. */
 
-/* Reads a sheet of n tasks into the first n records of list.
- * The detail is n in bits 0 to 7 and the policy in bits 8 to 15; the bits above are 0 and kept for later.
+/* Reads a sheet of n tasks into the first n records of list; of version 1 each frame gets its task's deadline.
+ * The detail is n in bits 0 to 7, the policy in bits 8 to 15 and the sheet's version in bits 16 to 23; the bits above
+ * are 0 and kept for later.
  * Refuses as the sheet says, last 12: list_len is below n. */
 BURRBEECH_ENTRY uint64_t burrbeech_read_list(const uint8_t *sheet, size_t sheet_len, struct burrbeech_task *list,
                                              size_t list_len);
 
-/* Writes the set of all list_len records as a sheet, with its check word.
+/* Writes the set of all list_len records as a sheet of this version, with its check word.
  * The detail is the number of bytes written.
- * Refuses with 4, 6, 7, 9, 10 and 11 as the set says, last 12: sheet_len is below the sheet's length. */
-BURRBEECH_ENTRY uint64_t burrbeech_write_list(uint32_t policy, const struct burrbeech_task *list, size_t list_len,
-                                              uint8_t *sheet, size_t sheet_len);
+ * Refuses first with 3: the version is neither 1 nor 2; with 4, 6, 7, 9, 10 and 11 as the set says; with 17: the
+ * version is 1 and some task's deadlines are not all equal; last 12: sheet_len is below the sheet's length. */
+BURRBEECH_ENTRY uint64_t burrbeech_write_list(uint32_t version, uint32_t policy, const struct burrbeech_task *list,
+                                              size_t list_len, uint8_t *sheet, size_t sheet_len);
+
+/* Converts a sheet of the other version to this version: the same policy and tasks, with a check word of its own. A
+ * sheet of version 1 that is not refused can always be converted; there and back gives the same bytes.
+ * The detail is the number of bytes written to out.
+ * Refuses first with 3: the version is neither 1 nor 2; then as the sheet says, where 3 also means that the sheet is
+ * not of the other version; with 17: the version is 1 and some task's deadlines are not all equal; last 12: out_len is
+ * below the converted sheet's length. */
+BURRBEECH_ENTRY uint64_t burrbeech_convert(uint32_t version, const uint8_t *sheet, size_t sheet_len, uint8_t *out,
+                                           size_t out_len);
 
 /* Analyses the set of all n = list_len records and writes the response times to the first 8 * n numbers of times: eight
  * for each task in task-number order, frame by frame; 0 in a slot without a frame, and in all eight slots of a task
@@ -156,7 +177,8 @@ BURRBEECH_ENTRY uint64_t burrbeech_analyse_list(uint32_t policy, const struct bu
 BURRBEECH_ENTRY uint64_t burrbeech_analyse_sheet(const uint8_t *sheet, size_t sheet_len, uint32_t *times,
                                                  size_t times_len);
 
-/* Writes the report on a sheet to text: ASCII lines, each with its line feed, and no 0 byte behind them.
+/* Writes the report on a sheet to text: ASCII lines, each with its line feed, and no 0 byte behind them. The deadline
+ * in a task's line is the smallest of its frames.
  * The detail is their length, at most BURRBEECH_REPORT_MAX.
  * A refused sheet has a report too ("refused" and the number), so that the one refusal is 12: text_len is below the
  * length. */
@@ -179,7 +201,7 @@ BURRBEECH_ENTRY uint64_t burrbeech_report(const uint8_t *sheet, size_t sheet_len
  * the job's frame.
  *
  * A play goes tick by tick. A moment k is the start of tick k and the end of tick k - 1. At each moment misses are
- * looked at first: a job misses that has work left at its tick plus its task's deadline. The play stops at the first
+ * looked at first: a job misses that has work left at its tick plus its frame's deadline. The play stops at the first
  * miss, of several at one moment that of the lowest task number, or when all jobs are done. */
 
 /* Plays a script on the set of a sheet.
@@ -190,7 +212,7 @@ BURRBEECH_ENTRY uint64_t burrbeech_play(const uint8_t *sheet, size_t sheet_len, 
                                         size_t script_len);
 
 /* Writes the worst run of a set that misses as a script: that of the first frame without a response time of the task
- * that the analysis names. Its play stops with a miss of that task at 1 plus its deadline.
+ * that the analysis names. Its play stops with a miss of that task at 1 plus that frame's deadline.
  * The detail is the number of bytes written; 0 if the set holds, of which nothing is written, whatever the room.
  * Refuses as the sheet says, last 12: the set misses and script_len is below the script's length, which is at most
  * BURRBEECH_WORST_MAX. */
@@ -267,9 +289,9 @@ static inline const char *burrbeech_refusal_words(uint32_t refusal)
 {
     switch (refusal) {
     case 0: return "not refused";
-    case BURRBEECH_REFUSAL_LENGTH: return "shorter than 15 or longer than 452 bytes";
+    case BURRBEECH_REFUSAL_LENGTH: return "shorter than 15 or longer than 732 bytes";
     case BURRBEECH_REFUSAL_CHECK_WORD: return "check word wrong";
-    case BURRBEECH_REFUSAL_VERSION: return "version not 1";
+    case BURRBEECH_REFUSAL_VERSION: return "version neither 1 nor 2, or not the converter's";
     case BURRBEECH_REFUSAL_POLICY: return "policy not 0, 1 or 2";
     case BURRBEECH_REFUSAL_BITS: return "a spare or fill bit set";
     case BURRBEECH_REFUSAL_TASK_COUNT: return "task count 0 or over 16";
@@ -282,6 +304,7 @@ static inline const char *burrbeech_refusal_words(uint32_t refusal)
     case BURRBEECH_REFUSAL_SCRIPT: return "length, fill or check word of the script wrong";
     case BURRBEECH_REFUSAL_ITEM:
         return "a first frame or an entry of the script out of range, out of order or against a run rule";
+    case BURRBEECH_REFUSAL_DEADLINES: return "a set that version 1 cannot hold: the deadlines of a task differ";
     default: return "a refusal that this version does not know";
     }
 }
@@ -298,7 +321,13 @@ static inline uint32_t burrbeech_read_policy(uint64_t answer)
     return burrbeech_refusal(answer) == 0 ? (uint32_t)(burrbeech_detail(answer) >> 8 & 0xFF) : 0;
 }
 
-/* burrbeech_write_list: the bytes written; 0 for a refusal. */
+/* burrbeech_read_list: the version of the sheet; 0 for a refusal. */
+static inline uint32_t burrbeech_read_version(uint64_t answer)
+{
+    return burrbeech_refusal(answer) == 0 ? (uint32_t)(burrbeech_detail(answer) >> 16 & 0xFF) : 0;
+}
+
+/* burrbeech_write_list and burrbeech_convert: the bytes written; 0 for a refusal. */
 static inline size_t burrbeech_written_bytes(uint64_t answer)
 {
     return burrbeech_refusal(answer) == 0 ? (size_t)burrbeech_detail(answer) : 0;

@@ -4,7 +4,7 @@ use crate::library::{Analysis, NoStart, Refusal, Verdict};
 use crate::names::Name;
 use crate::output::Output;
 use crate::status::{Status, Trouble};
-use crate::words;
+use crate::{library, words};
 
 pub fn status_of(answer: &Result<Analysis, Refusal>) -> Status {
     match answer {
@@ -33,23 +33,27 @@ pub fn refusal_line(name: &Name, refusal: Refusal) -> String {
 }
 
 /// The object of a sheet.
-pub fn object(name: &Name, answer: &Result<Analysis, Refusal>) -> Object {
+pub fn object(name: &Name, sheet: &[u8], answer: &Result<Analysis, Refusal>) -> Result<Object, Trouble> {
     match answer {
-        Ok(analysis) => verdict_object(name, analysis.verdict, analysis.task_count),
-        Err(refusal) => refusal_object(name, *refusal),
+        Ok(analysis) => {
+            let set = library::read(sheet)?.map_err(|_| Trouble::disagreement("reading and analysing"))?;
+            Ok(verdict_object(name, analysis.verdict, analysis.task_count, set.version))
+        }
+        Err(refusal) => Ok(refusal_object(name, *refusal)),
     }
 }
 
 /// The fields that every verb's object of an analysed sheet starts with.
-pub fn verdict_object(name: &Name, verdict: Verdict, task_count: usize) -> Object {
+pub fn verdict_object(name: &Name, verdict: Verdict, task_count: usize, version: u32) -> Object {
     let object = Object::new().text("file", &name.plain());
-    match verdict {
+    let object = match verdict {
         Verdict::Holds => object.text("verdict", "holds").number("tasks", task_count as u64),
         Verdict::Missed { task, blocker } => {
             let object = object.text("verdict", "missed").number("tasks", task_count as u64);
             object.task("task", Some(task)).task("blocker", blocker)
         }
-    }
+    };
+    object.number("version", version)
 }
 
 /// The fields that every verb's object of a refused sheet starts with.

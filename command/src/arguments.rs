@@ -3,6 +3,7 @@ use crate::draw::DrawOptions;
 use crate::help::{Topic, Verb};
 use crate::names::{quoted_if_odd, Name};
 use crate::play::PlayOptions;
+use crate::set::{BY_FRAME, ONE_DEADLINE};
 use crate::status::Trouble;
 use std::ffi::{OsStr, OsString};
 
@@ -15,7 +16,8 @@ pub enum Request {
     Report(Name),
     Explain { json: bool, source: Name },
     Show { json: bool, source: Name },
-    Compose { table: Name, to: Option<Name> },
+    Compose { table: Name, version: Option<u32>, to: Option<Name> },
+    Convert { version: u32, sheet: Name, to: Option<Name> },
     Play(PlayOptions),
     Worst { json: bool, sheet: Name, to: Option<Name> },
     Draw(DrawOptions),
@@ -36,10 +38,12 @@ struct Given {
     quiet: bool,
     json: bool,
     to: Option<OsString>,
-    /// `--last`, `--from` and `--to` with their numbers.
+    /// `--last`, `--from` and `--to` with their numbers of ticks.
     last: Option<u32>,
     from_tick: Option<u32>,
     to_tick: Option<u32>,
+    /// `--to` of a verb that makes a sheet.
+    version: Option<u32>,
     names: Vec<OsString>,
 }
 
@@ -112,7 +116,7 @@ fn given(verb: Verb, mut words: impl Iterator<Item = OsString>) -> Result<Given,
                 break;
             }
             _ if is_help(&word) => return Err(surplus_help(verb, &word)),
-            Some(option) if verb.has(option) => take_option(&mut given, option, &mut words)?,
+            Some(option) if verb.has(option) => take_option(verb, &mut given, option, &mut words)?,
             _ if is_option(&word) => return Err(usage(format!("{} has no option {}", verb.name(), quoted_if_odd(&word)))),
             _ => given.names.push(word),
         }
@@ -131,7 +135,7 @@ fn is_option(word: &OsStr) -> bool {
 }
 
 /// An option that the verb has, with the word after it where it needs one.
-fn take_option(given: &mut Given, option: &str, words: &mut impl Iterator<Item = OsString>) -> Result<(), Trouble> {
+fn take_option(verb: Verb, given: &mut Given, option: &str, words: &mut impl Iterator<Item = OsString>) -> Result<(), Trouble> {
     match option {
         "-q" => given.quiet = true,
         "--json" => given.json = true,
@@ -141,7 +145,8 @@ fn take_option(given: &mut Given, option: &str, words: &mut impl Iterator<Item =
         }
         "--last" => once(option, given.last.replace(number(option, words.next())?))?,
         "--from" => once(option, given.from_tick.replace(number(option, words.next())?))?,
-        _ => once(option, given.to_tick.replace(number(option, words.next())?))?,
+        _ if verb == Verb::Draw => once(option, given.to_tick.replace(number(option, words.next())?))?,
+        _ => once(option, given.version.replace(version(words.next())?))?,
     }
     Ok(())
 }
@@ -151,6 +156,16 @@ fn once<T>(option: &str, before: Option<T>) -> Result<(), Trouble> {
     match before {
         None => Ok(()),
         Some(_) => Err(usage(format!("{option} is given twice"))),
+    }
+}
+
+/// The version of a sheet that is made.
+fn version(word: Option<OsString>) -> Result<u32, Trouble> {
+    let Some(word) = word else { return Err(usage("--to needs the version of the sheet, 1 or 2".to_string())) };
+    match word.to_str() {
+        Some("1") => Ok(ONE_DEADLINE),
+        Some("2") => Ok(BY_FRAME),
+        _ => Err(usage(format!("--to needs the version of the sheet, 1 or 2, which {} is not", quoted_if_odd(&word)))),
     }
 }
 
@@ -166,14 +181,18 @@ fn number(option: &str, word: Option<OsString>) -> Result<u32, Trouble> {
 }
 
 fn request(verb: Verb, given: Given) -> Result<Request, Trouble> {
-    let Given { quiet, json, to, last, from_tick, to_tick, names } = given;
+    let Given { quiet, json, to, last, from_tick, to_tick, version, names } = given;
     let to = to.map(target);
     match verb {
         Verb::Check => Ok(Request::Check(CheckOptions { quiet, json, sources: sources(names)? })),
         Verb::Report => Ok(Request::Report(source(verb, names)?)),
         Verb::Explain => Ok(Request::Explain { json, source: source(verb, names)? }),
         Verb::Show => Ok(Request::Show { json, source: source(verb, names)? }),
-        Verb::Compose => Ok(Request::Compose { table: source(verb, names)?, to }),
+        Verb::Compose => Ok(Request::Compose { table: source(verb, names)?, version, to }),
+        Verb::Convert => {
+            let needs = || usage(format!("convert needs --to and a version, 1 or 2: burrbeech {}", verb.usage()));
+            Ok(Request::Convert { version: version.ok_or_else(needs)?, sheet: source(verb, names)?, to })
+        }
         Verb::Play if json && last.is_some() => Err(usage("play --json has no lanes: --last is for the words".to_string())),
         Verb::Play => {
             let (sheet, script) = two(verb, names)?;
@@ -278,8 +297,13 @@ mod tests {
         assert_eq!(parsed("check").unwrap(), check(false, false, vec![Name::StandardInput]));
         assert_eq!(parsed("check a -q - --json").unwrap(), check(true, true, vec![file("a"), Name::StandardInput]));
         assert_eq!(parsed("check -- -q --json").unwrap(), check(false, false, vec![file("-q"), file("--json")]));
-        assert_eq!(parsed("compose t -o f").unwrap(), Request::Compose { table: file("t"), to: Some(file("f")) });
-        assert_eq!(parsed("compose -o -").unwrap(), Request::Compose { table: Name::StandardInput, to: Some(Name::StandardOutput) });
+        let compose = |table, version, to| Request::Compose { table, version, to };
+        assert_eq!(parsed("compose t -o f").unwrap(), compose(file("t"), None, Some(file("f"))));
+        assert_eq!(parsed("compose -o -").unwrap(), compose(Name::StandardInput, None, Some(Name::StandardOutput)));
+        assert_eq!(parsed("compose t --to 2").unwrap(), compose(file("t"), Some(2), None));
+        let convert = |version, sheet, to| Request::Convert { version, sheet, to };
+        assert_eq!(parsed("convert --to 1").unwrap(), convert(1, Name::StandardInput, None));
+        assert_eq!(parsed("convert s -o f --to 2").unwrap(), convert(2, file("s"), Some(file("f"))));
         assert_eq!(parsed("check -- -h").unwrap(), check(false, false, vec![file("-h")]));
         assert_eq!(parsed("show --help").unwrap(), Request::Help(Topic::One(Verb::Show)));
         assert_eq!(parsed("help explain").unwrap(), Request::Help(Topic::One(Verb::Explain)));
@@ -310,7 +334,8 @@ mod tests {
     fn what_cannot_be_meant() {
         let lines =
             "|frobnicate|check --quiet|check -x|check - -|report a b|report --json|report -q a|explain a b|show a b|show -o x|compose -o|\
-                     compose -o a -o b|compose a b|refusals x|refusals --json|help nosuch|help check show|--version x|--json|\
+                     compose -o a -o b|compose a b|compose --to|compose --to 3|compose --to 1 --to 1|compose --to 01|convert|convert s|convert --to|convert --to 0 s|\
+                     convert --to 02 s|convert --to 1 --to 2 s|convert --to 2 a b|convert --to 2 s --json|show --to 2|refusals x|refusals --json|help nosuch|help check show|--version x|--json|\
                      play|play s|play - -|play s r x|play s r --last|play s r --last -1|play s r --last 1 --last 2|play --json s r --last 1|play s r -o x|\
                      play s r --from 1|worst|worst s r|worst --json s|worst --json s -o -|worst s --last 3|draw|draw s r x|draw - -|\
                      draw s --json|draw s --from|draw s --from x|draw s --to 1 --to 2|draw s --to 4294967296|script|script nosuch|\

@@ -41,7 +41,7 @@ fn one(name: &Name, options: &CheckOptions, pipes: &mut Pipes, output: &mut Outp
     if options.quiet && status == Status::Done {
         return Ok(status);
     }
-    let line = if options.json { object(name, &answer).close() } else { line(name, &answer) };
+    let line = if options.json { object(name, &bytes, &answer)?.close() } else { line(name, &answer) };
     output.put(format!("{line}\n").as_bytes())?;
     Ok(status)
 }

@@ -164,9 +164,14 @@ fn last_done(jobs: &[Job]) -> u32 {
     jobs.iter().map(|job| job.done).max().unwrap_or(0)
 }
 
+/// How long after its release a job must be done: the deadline of its frame.
+pub fn deadline(set: &Set, job: &Job) -> u32 {
+    set.tasks[usize::from(job.task)].deadlines[usize::from(job.frame)]
+}
+
 /// The moment by which a job must be done.
 pub fn due(set: &Set, job: &Job) -> u32 {
-    job.released + set.tasks[usize::from(job.task)].deadline
+    job.released + deadline(set, job)
 }
 
 /// The jobs beside the named task's that are due with work left at the moment of the miss. The play names the lowest task only, so that
@@ -229,8 +234,8 @@ mod tests {
 
     /// A run of case G, of which the ticks are given.
     fn run_of_g(entries: &[Entry], play: Play, bytes: &[u8]) -> Option<(Vec<Tick>, Vec<Job>)> {
-        let task = |period, deadline, lock, frame| Task { period, deadline, lock, frames: vec![frame] };
-        let set = Set { policy: 0, tasks: vec![task(10, 4, 0, 2), task(20, 20, 4, 5)] };
+        let task = |period, deadline, lock, frame| Task { period, lock, frames: vec![frame], deadlines: vec![deadline] };
+        let set = Set { version: 1, policy: 0, tasks: vec![task(10, 4, 0, 2), task(20, 20, 4, 5)] };
         followed(&set, &Script::of(&script::write(&[0, 0], entries), 2)?, play, bytes)
     }
 

@@ -52,13 +52,50 @@ pub fn of(findings: &Findings, place: usize, frame: usize, at: u32) -> Option<De
     Some(Demand { frame, at, blocking, own, higher, total })
 }
 
-/// The demand at the deadline of a task's lowest-numbered largest frame.
+/// The demand of a task's first frame without a response time, at that frame's deadline.
 pub fn at_deadline(findings: &Findings, place: usize) -> Option<Demand> {
-    let task = &findings.set.tasks[findings.ordered[place].task];
-    of(findings, place, task.largest_frame()?.0, task.deadline)
+    let Finding { task, missed_frame, .. } = findings.ordered[place];
+    let deadline = *findings.set.tasks[task].deadlines.get(missed_frame?)?;
+    of(findings, place, missed_frame?, deadline)
 }
 
-/// At each response time the demand is that time, and of a task that does not pass it exceeds the deadline.
+/// A higher task as the tasks below it see it: the work of 0, 1 and so on of its jobs up to a whole round.
+struct Higher {
+    period: u64,
+    works: Vec<u64>,
+}
+
+impl Higher {
+    fn of(task: &Task) -> Option<Self> {
+        let (start, frames) = (start_frame(&task.frames)?, task.frames.len());
+        Some(Higher { period: task.period.into(), works: (0..=frames).map(|jobs| sum_from(&task.frames, start, jobs)).collect() })
+    }
+
+    fn work(&self, t: u64) -> u64 {
+        let (jobs, round) = (t.div_ceil(self.period), self.works.len() as u64 - 1);
+        jobs / round * self.works[round as usize] + self.works[(jobs % round) as usize]
+    }
+}
+
+/// The first frame of a task without a response time: from blocking and frame time on, the demand climbs past its deadline.
+pub fn missed_frame(findings: &Findings, place: usize) -> Option<usize> {
+    let Finding { task, blocking, .. } = findings.ordered[place];
+    let task = &findings.set.tasks[task];
+    let above = findings.ordered[..place].iter().map(|finding| Higher::of(&findings.set.tasks[finding.task]));
+    let higher = above.collect::<Option<Vec<Higher>>>()?;
+    let misses = |(&time, &deadline): (&u32, &u32)| {
+        let own = u64::from(blocking) + u64::from(time);
+        let (mut t, mut demand) = (0, own);
+        while t < demand && demand <= deadline.into() {
+            t = demand;
+            demand = own + higher.iter().map(|task| task.work(t)).sum::<u64>();
+        }
+        demand > deadline.into()
+    };
+    task.frames.iter().zip(&task.deadlines).position(misses)
+}
+
+/// At each response time the demand is that time, and of a task that does not pass a frame's exceeds its deadline.
 pub fn agrees(findings: &Findings) -> Result<(), Trouble> {
     let place_agrees = |place: usize| match &findings.ordered[place].times {
         Some(times) => times.iter().enumerate().all(|(frame, &t)| of(findings, place, frame, t).is_some_and(|d| d.total == u64::from(t))),

@@ -63,7 +63,7 @@ fn deliver(options: &DrawOptions, course: &Course, run_name: &str, output: &mut 
     let end = end_words(course);
     let verdict = words::verdict(course.findings.verdict, course.findings.set.tasks.len());
     let shown = shown_words(from, to_tick, course.play.tick);
-    let mut lines = vec![format!("The sheet, {}: {verdict}.", shortened(&sheet.shown())), words::policy(course.findings.set.policy)];
+    let mut lines = vec![format!("The sheet, {}: {verdict}.", shortened(&sheet.shown())), words::policy(&course.findings.set)];
     lines.extend(missed_words(course));
     lines.extend(also_missed_words(course));
     lines.push(format!("Shown: {shown}."));

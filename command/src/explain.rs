@@ -2,10 +2,11 @@
 use crate::answers::{refusal_line, status_of_verdict, unread};
 use crate::demand::{self, Demand, Jobs};
 use crate::faults::{self, Fault};
-use crate::findings::{self, Finding, Findings};
+use crate::findings::{self, Findings};
 use crate::library::{Refusal, Verdict};
 use crate::names::Name;
 use crate::output::Output;
+use crate::set::Task;
 use crate::status::{Status, Trouble};
 use crate::words::{self, counted, joined, UNITS};
 use crate::{explain_json, input, library};
@@ -55,7 +56,8 @@ fn refused_text(json: bool, name: &Name, refusal: Refusal, fault: &Fault) -> Str
     }
 }
 
-fn refused(name: &Name, refusal: Refusal, fault: &Fault) -> String {
+/// The line of a refused sheet, what is wrong with it, and what to do.
+pub fn refused(name: &Name, refusal: Refusal, fault: &Fault) -> String {
     let task = refusal.task.map_or(String::new(), |task| format!("task {task}: "));
     let advice = if fault.advice.is_empty() { String::new() } else { format!("{}\n", fault.advice) };
     format!("{}\n{task}{}\n{advice}", refusal_line(name, refusal), fault.words)
@@ -64,7 +66,7 @@ fn refused(name: &Name, refusal: Refusal, fault: &Fault) -> String {
 fn judged(name: &Name, findings: &Findings) -> Result<String, Trouble> {
     let Findings { set, verdict, ordered } = findings;
     let first = format!("{}: {}\n", name.shown(), words::verdict(*verdict, set.tasks.len()));
-    let policy = words::policy(set.policy);
+    let policy = words::policy(set);
     let mut text = format!("{first}{UNITS}\n{policy}\nThe tasks, highest priority first:\n");
     for place in 0..ordered.len() {
         text += &task_text(findings, place)?;
@@ -76,14 +78,20 @@ fn judged(name: &Name, findings: &Findings) -> Result<String, Trouble> {
 fn task_text(findings: &Findings, place: usize) -> Result<String, Trouble> {
     let finding = &findings.ordered[place];
     let task = &findings.set.tasks[finding.task];
-    let head = format!("\ntask {}: period {}, deadline {}, lock {}\n", finding.task, task.period, task.deadline, task.lock);
+    let head = head_line(finding.task, task);
     let blocking = format!("  blocking {}: {}\n", finding.blocking, blocking_words(findings, place));
-    let rest = match &finding.times {
-        Some(times) => times.iter().enumerate().map(|(frame, &time)| frame_line(findings, finding, frame, time)).collect(),
-        None if is_named(findings, finding.task) => return Ok(head + &named_text(findings, place)?),
-        None => passed_over_text(&deadline_demand(findings, place)?),
-    };
-    Ok(head + &blocking + &rest)
+    let frames = frame_lines(task, finding.times.as_deref());
+    match &finding.times {
+        Some(_) => Ok(head + &blocking + &frames),
+        None if is_named(findings, finding.task) => Ok(head + &frames + &named_text(findings, place)?),
+        None => Ok(head + &blocking + &frames + &passed_over_text(&deadline_demand(findings, place)?)),
+    }
+}
+
+/// The deadline stands here where it is that of all frames, else at each of them.
+fn head_line(number: usize, task: &Task) -> String {
+    let deadline = task.one_deadline().map_or(String::new(), |deadline| format!(", deadline {deadline}"));
+    format!("\ntask {number}: period {}{deadline}, lock {}\n", task.period, task.lock)
 }
 
 /// Who causes the blocking, or why there is none.
@@ -95,14 +103,21 @@ fn blocking_words(findings: &Findings, place: usize) -> String {
     }
 }
 
-fn frame_line(findings: &Findings, finding: &Finding, frame: usize, time: u32) -> String {
-    let task = &findings.set.tasks[finding.task];
-    format!("  frame {frame}: work {}, response time {time}, slack {}\n", task.frames[frame], slack(task.deadline, time))
+/// A line for each frame; none where there are no times and the one deadline stands above.
+fn frame_lines(task: &Task, times: Option<&[u32]>) -> String {
+    let is_one = task.one_deadline().is_some();
+    let line = |frame: usize| {
+        let deadline = if is_one { String::new() } else { format!(", deadline {}", task.deadlines[frame]) };
+        let found = |times: &[u32]| format!(", response time {}, slack {}", times[frame], slack(task, frame, times[frame]));
+        format!("  frame {frame}: work {}{deadline}{}\n", task.frames[frame], times.map_or(String::new(), found))
+    };
+    let shown = if is_one && times.is_none() { 0 } else { task.frames.len() };
+    (0..shown).map(line).collect()
 }
 
-/// The findings have no response time above the deadline.
-pub fn slack(deadline: u32, time: u32) -> u32 {
-    deadline - time
+/// The findings have no response time above its frame's deadline.
+pub fn slack(task: &Task, frame: usize, time: u32) -> u32 {
+    task.deadlines[frame] - time
 }
 
 /// Whether the verdict names this task.
@@ -117,7 +132,7 @@ pub fn deadline_demand(findings: &Findings, place: usize) -> Result<Demand, Trou
 /// A task that does not pass and is not the one that the verdict names: its demand in one sum.
 fn passed_over_text(demand: &Demand) -> String {
     let Demand { frame, total, .. } = demand;
-    format!("{}  demand of frame {frame} at the deadline: {total}, which is {}\n", no_time_line(demand), excess_words(demand))
+    format!("{}  demand of frame {frame} at its deadline: {total}, which is {}\n", no_time_line(demand), excess_words(demand))
 }
 
 /// The task that the verdict names: its demand term by term.
@@ -126,7 +141,7 @@ fn named_text(findings: &Findings, place: usize) -> Result<String, Trouble> {
     let Demand { frame, own, at, .. } = demand;
     let width = demand.total.to_string().len();
     let line = |number: u64, words: String| format!("    {number:>width$}  {words}\n");
-    let mut text = format!("{}  demand of frame {frame} at t = {at}, the deadline:\n", no_time_line(&demand));
+    let mut text = format!("{}  demand of frame {frame} at t = {at}, its deadline:\n", no_time_line(&demand));
     text += &line(demand.blocking.into(), format!("blocking: {}", blocking_words(findings, place)));
     text += &line(own.into(), format!("own frame {frame}"));
     text.extend(demand.higher.iter().map(|jobs| line(jobs.work, jobs_words(jobs, at))));
@@ -135,7 +150,8 @@ fn named_text(findings: &Findings, place: usize) -> Result<String, Trouble> {
 
 fn no_time_line(demand: &Demand) -> String {
     let Demand { frame, own, at, .. } = demand;
-    format!("  does not pass: the demand of its largest frame, frame {frame} with work {own}, is above t for every t from 1 to the deadline {at}\n")
+    let which = format!("its first frame without a response time, frame {frame} with work {own}");
+    format!("  does not pass: the demand of {which}, is above t for every t from 1 to its deadline {at}\n")
 }
 
 fn excess_words(demand: &Demand) -> String {
@@ -182,9 +198,9 @@ fn also_missed(findings: &Findings, named: usize) -> String {
 /// The first in priority order and frame by frame.
 fn smallest_slack(findings: &Findings) -> String {
     let slacks = findings.ordered.iter().flat_map(|finding| {
-        let deadline = findings.set.tasks[finding.task].deadline;
+        let task = &findings.set.tasks[finding.task];
         let frames = finding.times.iter().flatten().enumerate();
-        frames.map(move |(frame, &time)| (slack(deadline, time), finding.task, frame))
+        frames.map(move |(frame, &time)| (slack(task, frame, time), finding.task, frame))
     });
     match slacks.min_by_key(|&(slack, ..)| slack) {
         Some((slack, task, frame)) => format!("\nThe smallest slack is {}: task {task}, frame {frame}.\n", counted(slack.into(), "tick")),

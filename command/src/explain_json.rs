@@ -20,7 +20,7 @@ pub fn judged(name: &Name, findings: &Findings) -> Result<String, Trouble> {
     let Findings { set, verdict, ordered } = findings;
     let list = (0..set.tasks.len()).filter_map(|task| ordered.iter().find(|finding| finding.task == task));
     let list = array(list.map(|finding| finding_object(findings, finding)));
-    let object = verdict_object(name, *verdict, set.tasks.len())
+    let object = verdict_object(name, *verdict, set.tasks.len(), set.version)
         .number("policy", set.policy)
         .text("policy_name", policy_name(set.policy).unwrap_or_default())
         .raw("order", &array(ordered.iter().map(|finding| finding.task)))
@@ -38,7 +38,7 @@ fn finding_object(findings: &Findings, finding: &Finding) -> String {
     let object = object.truth("passes", finding.times.is_some());
     let object = match &finding.times {
         Some(times) => {
-            let slacks = array(times.iter().map(|&time| slack(task.deadline, time)));
+            let slacks = array(times.iter().enumerate().map(|(frame, &time)| slack(task, frame, time)));
             object.raw("times", &array(times)).raw("slack", &slacks)
         }
         None => object.raw("times", "null").raw("slack", "null"),
@@ -46,7 +46,7 @@ fn finding_object(findings: &Findings, finding: &Finding) -> String {
     object.close()
 }
 
-/// The demand at the deadline of the missed task's lowest-numbered largest frame.
+/// The demand of the missed task's first frame without a response time, at that frame's deadline.
 fn demand_object(findings: &Findings, task: usize) -> Result<String, Trouble> {
     let place = findings.ordered.iter().position(|finding| finding.task == task).expect("the missed task has a place");
     let demand = deadline_demand(findings, place)?;

@@ -1,9 +1,12 @@
 //! What is wrong with a refused sheet or list, in words: one function for each refusal. Each answers nothing where it sees no fault, and
 //! the command then says that it disagrees with the library instead of making up a reason.
 use crate::frames::{no_start, sum_from, taken};
-use crate::library::{NoStart, Refusal};
-use crate::set::{policy_name, Task, GREATEST_SHEET, LEAST_SHEET, MOST_FRAMES, MOST_TASKS, MOST_TICKS, POLICIES};
-use crate::sheet_bits::{self, End, SheetBits, FIXED_BITS, VERSION};
+use crate::library::{NoStart, Refusal, DEADLINES_DIFFER};
+use crate::set::{
+    other_version, policy_name, Set, Task, BY_FRAME, GREATEST_SHEET, LEAST_SHEET, MOST_FRAMES, MOST_TASKS, MOST_TICKS, ONE_DEADLINE,
+    POLICIES,
+};
+use crate::sheet_bits::{self, Cut, End, Layout, SheetBits};
 use crate::status::Trouble;
 use crate::words::{counted, in_words, is_text, joined};
 use std::borrow::Cow;
@@ -55,26 +58,41 @@ fn of_record(refusal: Refusal, task: usize, bits: &SheetBits) -> Option<Fault> {
     let record = bits.records.get(task)?;
     match refusal.number {
         7 => frame_count(task, record.frame_count as usize),
-        _ => of_task(refusal, task, &record.task),
+        _ => of_task(refusal, task, &record.task, bits.version),
     }
 }
 
 /// The fault of a refused list.
-pub fn of_list(refusal: Refusal, policy_number: u32, tasks: &[Task]) -> Result<Fault, Trouble> {
-    let named = refusal.task.and_then(|task| Some((task, tasks.get(task)?)));
+pub fn of_list(refusal: Refusal, set: &Set) -> Result<Fault, Trouble> {
+    let named = refusal.task.and_then(|task| Some((task, set.tasks.get(task)?)));
     let found = match (refusal.number, named) {
-        (4, _) => policy(policy_number),
-        (6, _) => task_count(tasks.len()),
+        (3, _) => version(set.version),
+        (4, _) => policy(set.policy),
+        (6, _) => task_count(set.tasks.len()),
         (7, Some((number, task))) => frame_count(number, task.frames.len()),
-        (_, Some((number, task))) => of_task(refusal, number, task),
+        (DEADLINES_DIFFER, _) => deadlines(&set.tasks).filter(|_| set.version == ONE_DEADLINE),
+        (_, Some((number, task))) => of_task(refusal, number, task, set.version),
         (_, None) => None,
     };
     found.ok_or_else(|| unseen(refusal))
 }
 
-fn of_task(refusal: Refusal, number: usize, task: &Task) -> Option<Fault> {
+/// The fault of a sheet that is not converted to this version.
+pub fn of_conversion(refusal: Refusal, to: u32, sheet: &[u8]) -> Result<Fault, Trouble> {
+    let found = match (refusal.number, sheet_bits::read(sheet)) {
+        (3, Some(bits)) => version(bits.version).or_else(|| same_version(bits.version, to)),
+        (DEADLINES_DIFFER, Some(bits)) => {
+            let tasks: Vec<Task> = bits.records.into_iter().map(|record| record.task).collect();
+            deadlines(&tasks).filter(|_| to == ONE_DEADLINE)
+        }
+        _ => return of_sheet(refusal, sheet),
+    };
+    found.ok_or_else(|| unseen(refusal))
+}
+
+fn of_task(refusal: Refusal, number: usize, task: &Task, version: u32) -> Option<Fault> {
     match refusal.number {
-        9 => form(number, task),
+        9 => form(number, task, version),
         10 => lock(number, task),
         11 => monotony(number, task, refusal.no_start?),
         _ => None,
@@ -114,8 +132,15 @@ fn check_word(bits: &SheetBits, sheet: &[u8]) -> Option<Fault> {
 
 /// 3.
 fn version(version: u32) -> Option<Fault> {
-    let words = format!("version {version}: only version {VERSION} is known");
-    fault_if(version != VERSION, Part::Version, words, "Look whether this is a task sheet.")
+    let words = format!("version {version}: only versions {ONE_DEADLINE} and {BY_FRAME} are known");
+    fault_if(Layout::of(version).is_none(), Part::Version, words, "Look whether this is a task sheet.")
+}
+
+/// 3 of a conversion: a sheet of the other version is asked for.
+fn same_version(version: u32, to: u32) -> Option<Fault> {
+    let other = other_version(to);
+    let words = format!("the sheet has version {version}, and version {to} was asked for: a sheet of version {other} is converted to it");
+    fault_if(version == to, Part::Version, words, "The sheet can stay as it is.")
 }
 
 /// 4.
@@ -154,15 +179,13 @@ fn frame_count(task: usize, count: usize) -> Option<Fault> {
 fn records(bits: &SheetBits) -> Option<Fault> {
     let next = bits.records.len();
     let (part, words) = match &bits.end {
-        End::FixedCut(there) => {
-            let words =
-                format!("task {next}: the record runs past the check word: {FIXED_BITS} bits for its fixed part, {there} are there");
+        End::FixedCut(Cut { needed, there }) => {
+            let words = format!("task {next}: the record runs past the check word: {needed} bits for its fixed part, {there} are there");
             (Part::End, words)
         }
-        End::FramesCut(there) => {
-            let last = bits.records.last()?;
-            let (frames, bits) = (counted(last.frame_count.into(), "frame"), last.frame_bits());
-            let words = format!("task {}: the record runs past the check word: {bits} bits for {frames}, {there} are there", next - 1);
+        End::FramesCut(Cut { needed, there }) => {
+            let frames = counted(bits.records.last()?.frame_count.into(), "frame");
+            let words = format!("task {}: the record runs past the check word: {needed} bits for {frames}, {there} are there", next - 1);
             (Part::Task(next - 1), words)
         }
         End::Left(left) if left.len() >= 8 => {
@@ -174,23 +197,33 @@ fn records(bits: &SheetBits) -> Option<Fault> {
 }
 
 /// 9, with every reason.
-fn form(number: usize, task: &Task) -> Option<Fault> {
-    let out_of_range = |field: String, value: u32, least: u32| {
-        let fits = (least..=MOST_TICKS).contains(&value);
-        (!fits).then(|| format!("{field} {value}: {least} to {MOST_TICKS} are allowed"))
-    };
-    let frames = || task.frames.iter().enumerate();
+fn form(number: usize, task: &Task, version: u32) -> Option<Fault> {
+    let deadlines = deadline_words(task, version);
+    let frames = || task.frames.iter().zip(&task.deadlines).enumerate();
     let mut reasons: Vec<String> = Vec::new();
-    reasons.extend(out_of_range("period".to_string(), task.period, 1));
-    reasons.extend(out_of_range("deadline".to_string(), task.deadline, 1));
-    reasons.extend(out_of_range("lock".to_string(), task.lock, 0));
-    reasons.extend(frames().filter_map(|(frame, &time)| out_of_range(format!("frame {frame} with work"), time, 1)));
-    if task.deadline > task.period {
-        reasons.push(format!("deadline {} is above the period {}", task.deadline, task.period));
-    }
-    let above = frames().filter(|&(_, &time)| time > task.deadline);
-    reasons.extend(above.map(|(frame, time)| format!("frame {frame} with work {time} is above the deadline {}", task.deadline)));
+    reasons.extend(out_of_range(&format!("period {}", task.period), task.period, 1));
+    reasons.extend(deadlines.iter().filter_map(|(deadline, words)| out_of_range(words, *deadline, 1)));
+    reasons.extend(out_of_range(&format!("lock {}", task.lock), task.lock, 0));
+    reasons.extend(frames().filter_map(|(frame, (&time, _))| out_of_range(&format!("frame {frame} with work {time}"), time, 1)));
+    let late = deadlines.iter().filter(|(deadline, _)| *deadline > task.period);
+    reasons.extend(late.map(|(_, words)| format!("{words} is above the period {}", task.period)));
+    let above = frames().filter(|(_, (time, deadline))| time > deadline);
+    reasons.extend(above.map(|(frame, (time, deadline))| format!("frame {frame} with work {time} is above its deadline {deadline}")));
     fault_if(!reasons.is_empty(), Part::Task(number), reasons.join("; "), "")
+}
+
+/// Each deadline with its words, which name the frame unless one field or column stands for all frames.
+fn deadline_words(task: &Task, version: u32) -> Vec<(u32, String)> {
+    let by_frame = |(frame, &deadline): (usize, &u32)| (deadline, format!("deadline {deadline} of frame {frame}"));
+    match task.one_deadline().filter(|_| version == ONE_DEADLINE) {
+        Some(deadline) => vec![(deadline, format!("deadline {deadline}"))],
+        None => task.deadlines.iter().enumerate().map(by_frame).collect(),
+    }
+}
+
+fn out_of_range(words: &str, value: u32, least: u32) -> Option<String> {
+    let fits = (least..=MOST_TICKS).contains(&value);
+    (!fits).then(|| format!("{words}: {least} to {MOST_TICKS} are allowed"))
 }
 
 /// 10.
@@ -203,7 +236,15 @@ fn lock(number: usize, task: &Task) -> Option<Fault> {
 /// 11, where the frames have no start frame for the very reason that the library names.
 fn monotony(number: usize, task: &Task, named: NoStart) -> Option<Fault> {
     let seen = no_start(task).filter(|&seen| seen == named)?;
-    fault_if(true, Part::Task(number), no_start_words(&task.frames, seen), no_start_advice(&task.frames, seen))
+    fault_if(true, Part::Task(number), no_start_words(&task.frames, seen), no_start_advice(task, seen))
+}
+
+/// 17: the first task whose deadlines differ, frame 0 and the first frame that has another.
+fn deadlines(tasks: &[Task]) -> Option<Fault> {
+    let (number, task, frame) = tasks.iter().enumerate().find_map(|(number, task)| Some((number, task, task.unequal_deadline()?)))?;
+    let [first, other] = [0, frame].map(|frame| format!("frame {frame} has deadline {}", task.deadlines[frame]));
+    let words = format!("task {number}: {first}, {other}: version {ONE_DEADLINE} has one deadline for all frames of a task");
+    fault_if(true, Part::Task(number), words, "Version 2 can hold it; or give all frames of each task one deadline.")
 }
 
 /// The largest frame and the two sums, term by term.
@@ -224,14 +265,16 @@ fn no_start_words(frames: &[u32], no_start: NoStart) -> String {
 }
 
 /// What the smaller sum lacks can be given to its last frame, which the greater has not, and which comes to no more than the largest.
-fn no_start_advice(frames: &[u32], no_start: NoStart) -> String {
-    let NoStart { frame, length, other_frame } = no_start;
+/// Its own deadline may be too short for that, and is within the period when it is raised with it.
+fn no_start_advice(task: &Task, no_start: NoStart) -> String {
+    let (NoStart { frame, length, other_frame }, frames) = (no_start, &task.frames);
     let last = (frame + length - 1) % frames.len();
     let (missing, time) = (sum_from(frames, other_frame, length) - sum_from(frames, frame, length), u64::from(frames[last]));
+    let (raised, deadline) = (time + missing, u64::from(task.deadlines[last]));
+    let longer = if raised > deadline { format!(", its deadline from {deadline} to {raised},") } else { String::new() };
     format!(
-        "Change the order of the frames, or raise frame {last} from {time} to {} and ask again. A list that never rises in a round from one of its \
-         largest frames on has a start frame. Frames count from 0; docs/SHEET.md shows how a list is mended.",
-        time + missing
+        "Change the order of the frames, or raise frame {last} from {time} to {raised}{longer} and ask again. A list that never rises in a round \
+         from one of its largest frames on has a start frame. Frames count from 0; docs/SHEET.md shows how a list is mended."
     )
 }
 
@@ -243,27 +286,56 @@ mod tests {
     /// Of a set that is admitted no refusal is made up.
     #[test]
     fn no_fault_is_said_where_there_is_none() {
-        let task = Task { period: 10, deadline: 4, lock: 2, frames: vec![2, 1] };
-        let sheet = library::write(0, std::slice::from_ref(&task)).expect("an answer").expect("a sheet");
-        for number in 1..=12 {
-            for task_number in [None, Some(0), Some(1)] {
+        let task = Task { period: 10, lock: 2, frames: vec![2, 1], deadlines: vec![4, 4] };
+        for version in [ONE_DEADLINE, BY_FRAME] {
+            let set = Set { version, policy: 0, tasks: vec![task.clone()] };
+            let sheet = library::write(&set).expect("an answer").expect("a sheet");
+            for (number, task) in (1..=17).flat_map(|number| [None, Some(0), Some(1)].map(|task| (number, task))) {
                 for no_start in [None, Some(NoStart { frame: 0, length: 2, other_frame: 1 })] {
-                    let refusal = Refusal { number, task: task_number, no_start };
+                    let refusal = Refusal { number, task, no_start };
                     assert!(matches!(of_sheet(refusal, &sheet), Err(Trouble::Disagreement(_))), "{refusal:?}");
-                    assert!(matches!(of_list(refusal, 0, std::slice::from_ref(&task)), Err(Trouble::Disagreement(_))), "{refusal:?}");
+                    assert!(matches!(of_list(refusal, &set), Err(Trouble::Disagreement(_))), "{refusal:?}");
+                    let to_the_other = of_conversion(refusal, other_version(version), &sheet);
+                    assert!(matches!(to_the_other, Err(Trouble::Disagreement(_))), "{refusal:?}");
                 }
             }
         }
     }
 
+    /// Deadlines that differ are a fault in version 1 alone, and a version only where it is the one asked for.
+    #[test]
+    fn the_fault_is_that_of_the_version_asked_for() {
+        let tasks = vec![task(&[3]), Task { deadlines: vec![4, 4, 5], ..task(&[3, 2, 1]) }];
+        let [one, two] = [ONE_DEADLINE, BY_FRAME].map(|version| Set { version, policy: 0, tasks: tasks.clone() });
+        let sheet = library::write(&two).expect("an answer").expect("a sheet");
+        let refusal = |number| Refusal { number, task: None, no_start: None };
+        let words = "task 1: frame 0 has deadline 4, frame 2 has deadline 5: version 1 has one deadline for all frames of a task";
+        let fault = of_list(refusal(DEADLINES_DIFFER), &one).expect("a fault");
+        assert_eq!((fault.words.as_str(), fault.part), (words, Part::Task(1)));
+        assert_eq!(of_conversion(refusal(DEADLINES_DIFFER), ONE_DEADLINE, &sheet).expect("a fault").words, words);
+        let words = "the sheet has version 2, and version 2 was asked for: a sheet of version 1 is converted to it";
+        assert_eq!(of_conversion(refusal(3), BY_FRAME, &sheet).expect("a fault").words, words);
+        for fault in [
+            of_list(refusal(DEADLINES_DIFFER), &two),
+            of_conversion(refusal(DEADLINES_DIFFER), BY_FRAME, &sheet),
+            of_conversion(refusal(3), ONE_DEADLINE, &sheet),
+        ] {
+            assert!(matches!(fault, Err(Trouble::Disagreement(_))), "{fault:?}");
+        }
+    }
+
     fn task(frames: &[u32]) -> Task {
-        Task { period: 10, deadline: 10, lock: 0, frames: frames.to_vec() }
+        Task { period: 10, lock: 0, frames: frames.to_vec(), deadlines: vec![10; frames.len()] }
+    }
+
+    fn set(frames: &[u32]) -> Set {
+        Set { version: ONE_DEADLINE, policy: 0, tasks: vec![task(frames)] }
     }
 
     /// The words where the library refuses these frames for this reason; none where the command does not agree.
     fn words_of(frames: &[u32], frame: usize, length: usize, other_frame: usize) -> Option<String> {
         let refusal = Refusal { number: 11, task: Some(0), no_start: Some(NoStart { frame, length, other_frame }) };
-        match of_list(refusal, 0, &[task(frames)]) {
+        match of_list(refusal, &set(frames)) {
             Ok(fault) => Some(fault.words),
             Err(Trouble::Disagreement(_)) => None,
             Err(trouble) => panic!("{trouble:?}"),
@@ -303,7 +375,7 @@ mod tests {
     #[test]
     fn no_fault_without_a_reason() {
         let refusal = Refusal { number: 11, task: Some(0), no_start: None };
-        assert!(matches!(of_list(refusal, 0, &[task(&[1, 2, 3])]), Err(Trouble::Disagreement(_))));
+        assert!(matches!(of_list(refusal, &set(&[1, 2, 3])), Err(Trouble::Disagreement(_))));
     }
 
     #[test]

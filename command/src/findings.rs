@@ -17,6 +17,8 @@ pub struct Finding {
     pub blocker: Option<usize>,
     /// A response time for each frame, or none of them if the task does not pass.
     pub times: Option<Vec<u32>>,
+    /// The first frame without a response time, if the task does not pass.
+    pub missed_frame: Option<usize>,
 }
 
 #[derive(Clone, Debug)]
@@ -36,13 +38,14 @@ pub fn of(sheet: &[u8]) -> Answer<Findings> {
         _ => return Err(Trouble::disagreement("reading and analysing")),
     };
     // the fields that are put into words are the sheet's
-    if library::write(set.policy, &set.tasks)?.as_deref() != Ok(sheet) {
+    if library::write(&set)?.as_deref() != Ok(sheet) {
         return Err(Trouble::disagreement("reading and writing"));
     }
     let verdict = analysis.verdict;
     let ordered = parsed(&report, &set, &analysis).ok_or_else(|| Trouble::disagreement(REPORT_AND_ANALYSIS))?;
     let mut findings = Findings { set, verdict, ordered };
     name_blockers(&mut findings)?;
+    name_missed_frames(&mut findings);
     demand::agrees(&findings)?;
     Ok(Ok(findings))
 }
@@ -83,7 +86,7 @@ fn parsed(report: &[u8], set: &Set, analysis: &Analysis) -> Option<Vec<Finding>>
     numbers.into_iter().eq(0..count).then_some(ordered)
 }
 
-/// Number, period, deadline, blocking, then the times or the word `missed`.
+/// Number, period, smallest deadline, blocking, then the times or the word `missed`.
 fn finding(line: &str, set: &Set, analysis: &Analysis) -> Option<Finding> {
     let words: Vec<&str> = line.split(' ').collect();
     let [number, period, deadline, blocking, times @ ..] = words.as_slice() else { return None };
@@ -95,10 +98,10 @@ fn finding(line: &str, set: &Set, analysis: &Analysis) -> Option<Finding> {
     };
     let frames = times.as_ref().map_or(0, Vec::len);
     let same_times = times.iter().flatten().copied().chain(std::iter::repeat(0)).take(slots.len()).eq(slots.iter().copied());
-    let same_task = period.parse() == Ok(task.period) && deadline.parse() == Ok(task.deadline);
+    let same_task = period.parse() == Ok(task.period) && deadline.parse().ok() == task.smallest_deadline();
     let whole = times.is_none() || frames == task.frames.len();
-    let in_time = times.iter().flatten().all(|&time| time <= task.deadline);
-    let finding = Finding { task: number, blocking: blocking.parse().ok()?, blocker: None, times };
+    let in_time = times.iter().flatten().zip(&task.deadlines).all(|(time, deadline)| time <= deadline);
+    let finding = Finding { task: number, blocking: blocking.parse().ok()?, blocker: None, times, missed_frame: None };
     (same_times && same_task && whole && in_time).then_some(finding)
 }
 
@@ -121,6 +124,15 @@ fn name_blockers(findings: &mut Findings) -> Result<(), Trouble> {
     Ok(())
 }
 
+/// The library does not say which frame it is; where none is found the demand does not agree.
+fn name_missed_frames(findings: &mut Findings) {
+    for place in 0..findings.ordered.len() {
+        if findings.ordered[place].times.is_none() {
+            findings.ordered[place].missed_frame = demand::missed_frame(findings, place);
+        }
+    }
+}
+
 #[cfg(test)]
 mod tests {
     use super::*;
@@ -128,8 +140,8 @@ mod tests {
 
     /// Case F of the scope, with its report.
     fn case_f() -> (Set, Analysis, &'static str) {
-        let task = |period, deadline, lock, frame| Task { period, deadline, lock, frames: vec![frame] };
-        let set = Set { policy: 0, tasks: vec![task(10, 4, 0, 2), task(20, 20, 3, 5)] };
+        let task = |period, deadline, lock, frame| Task { period, lock, frames: vec![frame], deadlines: vec![deadline] };
+        let set = Set { version: 1, policy: 0, tasks: vec![task(10, 4, 0, 2), task(20, 20, 3, 5)] };
         let slots = |time| [time, 0, 0, 0, 0, 0, 0, 0];
         let analysis = Analysis { task_count: 2, verdict: Verdict::Holds, times: vec![slots(4), slots(7)] };
         (set, analysis, "holds 2\n0 10 4 2 4\n1 20 20 0 7\n")
@@ -193,6 +205,35 @@ mod tests {
         slow.ordered[1].times = Some(vec![8]);
         assert!(demand::agrees(&slow).is_err());
         slow.ordered[1].times = None;
-        assert!(demand::agrees(&slow).is_err());
+        name_missed_frames(&mut slow);
+        assert!(slow.ordered[1].missed_frame.is_none() && demand::agrees(&slow).is_err());
+    }
+
+    /// Task 1 of case F with two frames, whose deadlines are these: 7 and 6 are their response times.
+    fn two_frames(deadlines: [u32; 2], line: &str, times: [u32; 2]) -> Option<Findings> {
+        let (mut set, mut analysis, _) = case_f();
+        set.tasks[1] = Task { frames: vec![5, 4], deadlines: deadlines.to_vec(), ..set.tasks[1].clone() };
+        analysis.times[1][..2].copy_from_slice(&times);
+        let ordered = parsed(format!("any\n0 10 4 2 4\n{line}\n").as_bytes(), &set, &analysis)?;
+        Some(Findings { set, verdict: analysis.verdict, ordered })
+    }
+
+    /// The report has the smallest deadline, and no time is above the deadline of its own frame.
+    #[test]
+    fn each_frame_has_its_own_deadline() {
+        let findings = two_frames([7, 6], "1 20 6 0 7 6", [7, 6]).expect("a report in form");
+        assert!(demand::agrees(&findings).is_ok());
+        assert!(two_frames([20, 6], "1 20 20 0 7 6", [7, 6]).is_none() && two_frames([6, 20], "1 20 6 0 7 6", [7, 6]).is_none());
+    }
+
+    /// Of a task that does not pass, the first frame that its own deadline is too short for; none where all are long enough.
+    #[test]
+    fn the_missed_frame_goes_by_its_own_deadline() {
+        for (deadlines, frame) in [([6, 6], Some(0)), ([7, 5], Some(1)), ([6, 5], Some(0)), ([20, 5], Some(1)), ([7, 6], None)] {
+            let smallest = deadlines[0].min(deadlines[1]);
+            let mut findings = two_frames(deadlines, &format!("1 20 {smallest} 0 missed"), [0, 0]).expect("a report in form");
+            name_missed_frames(&mut findings);
+            assert_eq!((findings.ordered[1].missed_frame, demand::agrees(&findings).is_ok()), (frame, frame.is_some()), "{deadlines:?}");
+        }
     }
 }

@@ -36,7 +36,7 @@ mod tests {
     use super::*;
 
     fn reason(frames: &[u32]) -> Option<(usize, usize, usize)> {
-        let task = Task { period: 10, deadline: 10, lock: 0, frames: frames.to_vec() };
+        let task = Task { period: 10, lock: 0, frames: frames.to_vec(), deadlines: vec![10; frames.len()] };
         no_start(&task).map(|NoStart { frame, length, other_frame }| (frame, length, other_frame))
     }
 

@@ -8,6 +8,7 @@ pub enum Verb {
     Explain,
     Show,
     Compose,
+    Convert,
     Play,
     Worst,
     Draw,
@@ -16,12 +17,13 @@ pub enum Verb {
     Refusals,
 }
 
-const VERBS: [Verb; 11] = [
+const VERBS: [Verb; 12] = [
     Verb::Check,
     Verb::Report,
     Verb::Explain,
     Verb::Show,
     Verb::Compose,
+    Verb::Convert,
     Verb::Play,
     Verb::Worst,
     Verb::Draw,
@@ -51,6 +53,7 @@ impl Verb {
             Verb::Explain => "explain",
             Verb::Show => "show",
             Verb::Compose => "compose",
+            Verb::Convert => "convert",
             Verb::Play => "play",
             Verb::Worst => "worst",
             Verb::Draw => "draw",
@@ -65,9 +68,10 @@ impl Verb {
         match option {
             "-q" => self == Verb::Check,
             "--json" => matches!(self, Verb::Check | Verb::Explain | Verb::Show | Verb::Play | Verb::Worst | Verb::ScriptShow),
-            "-o" => matches!(self, Verb::Compose | Verb::Worst | Verb::Draw | Verb::ScriptCompose),
+            "-o" => matches!(self, Verb::Compose | Verb::Convert | Verb::Worst | Verb::Draw | Verb::ScriptCompose),
             "--last" => self == Verb::Play,
-            "--from" | "--to" => self == Verb::Draw,
+            "--from" => self == Verb::Draw,
+            "--to" => matches!(self, Verb::Compose | Verb::Convert | Verb::Draw),
             _ => false,
         }
     }
@@ -88,7 +92,8 @@ impl Verb {
             Verb::Report => "report [FILE]",
             Verb::Explain => "explain [--json] [FILE]",
             Verb::Show => "show [--json] [FILE]",
-            Verb::Compose => "compose [TABLE] [-o FILE]",
+            Verb::Compose => "compose [--to 1|2] [TABLE] [-o FILE]",
+            Verb::Convert => "convert --to 1|2 [FILE] [-o FILE]",
             Verb::Play => "play [--last N | --json] SHEET SCRIPT",
             Verb::Worst => "worst [--json] SHEET [-o FILE]",
             Verb::Draw => "draw SHEET [SCRIPT] [-o FILE] [--from N] [--to N]",
@@ -105,6 +110,7 @@ impl Verb {
             Verb::Explain => "why a sheet holds, misses or is refused, in words",
             Verb::Show => "the set of a sheet as a text table",
             Verb::Compose => "a sheet from a text table",
+            Verb::Convert => "a sheet of the other version",
             Verb::Play => "how the run of a script ends: the miss, or all done",
             Verb::Worst => "the worst run of a set that misses, as a script",
             Verb::Draw => "a run, or the worst run, as a picture (SVG)",
@@ -121,6 +127,7 @@ impl Verb {
             Verb::Explain => EXPLAIN,
             Verb::Show => SHOW,
             Verb::Compose => COMPOSE,
+            Verb::Convert => CONVERT,
             Verb::Play => PLAY,
             Verb::Worst => WORST,
             Verb::Draw => DRAW,
@@ -173,8 +180,8 @@ A name with a space, a double quote, a backslash or a character that does not pr
 
   -q      says nothing of sheets that hold, and no totals
   --json  prints an object on a line for each FILE, and no totals:
-  {\"file\":NAME,\"verdict\":\"holds\",\"tasks\":COUNT}
-  {\"file\":NAME,\"verdict\":\"missed\",\"tasks\":COUNT,\"task\":TASK,\"blocker\":TASK or null}
+  {\"file\":NAME,\"verdict\":\"holds\",\"tasks\":COUNT,\"version\":1 or 2}
+  {\"file\":NAME,\"verdict\":\"missed\",\"tasks\":COUNT,\"task\":TASK,\"blocker\":TASK or null,\"version\":1 or 2}
   {\"file\":NAME,\"verdict\":\"refused\",\"refusal\":NUMBER,\"task\":TASK or null,\"words\":TEXT}
   {\"file\":NAME,\"verdict\":null,\"error\":TEXT}        (not read, with explain and show too; standard error has the message as well)
   refusal 11 has also \"reason\":{\"frame\":FRAME (the lowest-numbered largest),\"length\":COUNT (the shortest at which so many frames from
@@ -185,22 +192,23 @@ Exit status: 0 all hold, 1 some missed, 2 some refused, 3 some not read, or usag
 
 const REPORT: &str =
     "Prints the report and nothing else: `holds` and the task count; or `missed`, the count, the missed task and its blocker or `-`;
-or `refused` and the number. Unless refused, a line for each task follows in priority order: its number, period, deadline, blocking,
-and a response time for each frame, or the word `missed` once.
+or `refused` and the number. Unless refused, a line for each task follows in priority order: its number, period, deadline (of its
+frames' the smallest), blocking, and a response time for each frame, or the word `missed` once.
 
 Exit status: 0 holds, 1 missed, 2 refused, 3 not read, or usage.
 ";
 
-const EXPLAIN: &str = "Of a set that holds: each task in priority order with its blocking and who causes it, and for each frame its work, response time
-and slack (deadline less response time). Of a set that misses also the demand, at the deadline, of the missed task's largest frame,
-term by term. Of a refused sheet: the field, its value and the limit; where no frame can be the start frame (refusal 11), the largest
-frame, and the shortest length at which so many frames from another frame on, going round, make more, with both sums.
+const EXPLAIN: &str = "Of a set that holds: each task in priority order with its blocking and who causes it, and for each frame its work, its deadline where
+the task's frames have different ones, its response time and its slack (deadline less response time). Of a set that misses also the demand
+of the missed task's first frame without a response time, at that frame's deadline, term by term. Of a refused sheet: the field, its value
+and the limit; where no frame can be the start frame (refusal 11), the largest frame, and the shortest length at which so many frames from
+another frame on, going round, make more, with both sums.
 
   --json  prints one object, that of `check --json` with more fields:
   holds and missed: \"policy\":NUMBER, \"policy_name\":TEXT, \"order\":[TASK...] (highest priority first), \"list\":[...] with, for each task,
-    {\"task\",\"period\",\"deadline\",\"lock\",\"frames\":[...],\"blocking\",\"blocker\":TASK or null,\"passes\":true or false,
-     \"times\":[...] or null,\"slack\":[...] or null}
-  missed: \"demand\":{\"task\",\"frame\",\"at\" (the deadline),\"blocking\",\"own\",\"higher\":[{\"task\",\"jobs\",\"start_frame\",\"work\"}...],
+    {\"task\",\"period\",\"deadline\" (the smallest),\"lock\",\"frames\":[...],\"deadlines\":[...] (of each frame),\"blocking\",
+     \"blocker\":TASK or null,\"passes\":true or false,\"times\":[...] or null,\"slack\":[...] or null}
+  missed: \"demand\":{\"task\",\"frame\",\"at\" (its deadline),\"blocking\",\"own\",\"higher\":[{\"task\",\"jobs\",\"start_frame\",\"work\"}...],
      \"total\",\"excess\" (total less deadline)}
   refused: \"fault\":TEXT (field, value, limit), \"advice\":TEXT (may be empty)
 
@@ -208,13 +216,13 @@ Exit status: 0 holds, 1 missed, 2 refused, 3 not read, or usage.
 ";
 
 const SHOW: &str =
-    "Prints the table that `compose` reads; composed, it gives the same bytes again. Of a refused sheet it prints what can be read,
-with the fault marked by `<==`; the first line is then `refused` and the number, which no table has. `compose` takes the text when the
-fault is mended and that line and the mark, with what follows it, are deleted.
+    "Prints the table that `compose` reads; composed, it gives the same bytes again: of a sheet of version 2 it has a line `version 2`.
+Of a refused sheet it prints what can be read, with the fault marked by `<==`; the first line is then `refused` and the number, which no
+table has. `compose` takes the text when the fault is mended and that line and the mark, with what follows it, are deleted.
 
   --json  prints one object:
-  {\"file\":NAME,\"admitted\":true,\"tasks\":COUNT,\"policy\":NUMBER,\"policy_name\":TEXT,
-   \"list\":[{\"task\",\"period\",\"deadline\",\"lock\",\"frames\":[...]}...]}
+  {\"file\":NAME,\"admitted\":true,\"tasks\":COUNT,\"version\":1 or 2,\"policy\":NUMBER,\"policy_name\":TEXT,
+   \"list\":[{\"task\",\"period\",\"deadline\" (the smallest),\"lock\",\"frames\":[...],\"deadlines\":[...]}...]}
   of a refused sheet that of `explain --json`, then \"admitted\":false and, unless the length is wrong, \"length\", \"check_word\":HEX,
   \"computed_check_word\":HEX, \"version\", \"policy\", \"policy_name\":TEXT or null, \"tasks\", \"spare\":BITS and \"list\", whose records have
   \"frame_count\" too
@@ -230,6 +238,17 @@ const COMPOSE: &str = "Writes the sheet of a table to standard output, or to FIL
   0         10         4     0  2
   1         20        20     3  5           # task number, period, deadline, lock, then 1 to 8 frames
 
+A frame may have a deadline of its own, written behind its time and a slash; the column is then for the frames without one, or has `-`
+where there is none such:
+
+  version 2                                 # may be left out, see below
+  policy deadline-monotonic
+  task  period  deadline  lock  frames
+  0         20         -     0  4/10 2/5    # a frame of 4 ticks with deadline 10, one of 2 ticks with deadline 5
+  1         12         7     3  3
+
+The sheet is of version 2 where the deadlines of some task differ, and else of version 1, unless a line `version 1` or `version 2`, before
+or behind that of the policy, or --to tells it; both must tell the same. Version 1 cannot hold deadlines that differ: refusal 17.
 No line may have `<==`, in a comment either: `show` marks a fault with it.
 Numbers are decimal digits. Periods, deadlines and frames are 1 to 1048575 ticks, locks 0 to 1048575; 1 to 16 tasks.
 A line that is wrong is named on standard error as TABLE:LINE, and nothing is written.
@@ -237,10 +256,19 @@ A line that is wrong is named on standard error as TABLE:LINE, and nothing is wr
 Exit status: 0 written, 2 the set is refused, 3 the text is no table, not read or not written, or usage.
 ";
 
+const CONVERT: &str = "Writes the set of a sheet of version 1 as a sheet of version 2 (--to 2), or the other way round (--to 1), to standard output, or to FILE
+with -o: the whole file or none. Policy and tasks stay; there and back gives the same bytes. Version 2 has a deadline for each frame, which
+is the task's own in what comes from version 1; version 1 has one for all frames of a task, and cannot hold deadlines that differ.
+A refused sheet is told on standard error, and nothing is written: 17 with the first task whose deadlines differ and two of its frames, 3
+with the version of the sheet and the one asked for, which must be the other; all else as `explain` says it.
+
+Exit status: 0 written, 2 the sheet is refused, 3 not read or not written, or usage.
+";
+
 const PLAY: &str = "Plays the run of SCRIPT on the set of SHEET, tick by tick, up to the first miss (of a moment's misses that of the lower task number) or until
-all jobs are done, and says how it ends; of a miss the task, the moment, and the job: when it was released, its frame, when it was due and
-how much of its work is left. Jobs of other tasks that miss at the same moment are told behind it, worked out from the script and the
-ticks. Then a line for each task in priority order: its jobs, and how long the longest took.
+all jobs are done, and says how it ends; of a miss the task, the moment, and the job: when it was released, its frame, when it was due, by
+the deadline of that frame, and how much of its work is left. Jobs of other tasks that miss at the same moment are told behind it, worked
+out from the script and the ticks. Then a line for each task in priority order: its jobs, and how long the longest took.
 On a terminal the last 60 ticks follow as lanes, a character for each tick: x runs, L starts a locked stretch, = goes on in it, . waits,
 ! misses.
 
@@ -322,5 +350,6 @@ const REFUSALS: &str =
     "Prints a line for each number. Of several faults the first decides: 1, 2, 3, 4, 5 for the header, 6; then task by task 7 and 8;
 then 8 and 5 for what follows the records; then task by task 9, 10, 11. 12 is said to C programs only.
 13 and 14 are about a run script, after all of its sheet's own; 14 names the first item at fault, first frames and entries counted together
-from 0. `explain` says what is wrong in a sheet, `play` and `script show` what is wrong in a script.
+from 0. 17 is said by `compose` and `convert`, after 11, where a sheet of version 1 is asked for; `convert` says 3 also of a sheet that has
+the version asked for. `explain` says what is wrong in a sheet, `play` and `script show` what is wrong in a script.
 ";

@@ -5,6 +5,7 @@ use crate::svg::{arrow, cross, px, Anchor, Svg, IDLE, INK, LOCKED, MISS, RUNS, S
 /// What a picture has beside what every picture can have.
 pub struct Legend {
     pub frames: bool,
+    pub by_frame: bool,
     pub shares: bool,
     pub strokes: bool,
     pub parted: bool,
@@ -75,6 +76,9 @@ impl Legend {
         ];
         if self.frames {
             notes.push("A release of a task that has several frames has its job's frame beside it, where there is room.");
+        }
+        if self.by_frame {
+            notes.push("Where D is by frame, an arrow down stands at the deadline of the job's own frame.");
         }
         if self.parted {
             notes.push("White lines part the ticks of a box.");

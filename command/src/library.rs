@@ -1,6 +1,6 @@
 //! The proved library's entries: safe wrappers that lend the room each needs and decode the numbers.
 #![allow(unsafe_code)]
-use crate::set::{Set, Task, GREATEST_SHEET, MOST_FRAMES, MOST_TASKS};
+use crate::set::{Set, Task, BY_FRAME, GREATEST_SHEET, MOST_FRAMES, MOST_TASKS, ONE_DEADLINE};
 use crate::status::Trouble;
 
 /// `struct burrbeech_task`.
@@ -8,16 +8,17 @@ use crate::status::Trouble;
 #[derive(Clone, Copy, Debug, Default)]
 struct Record {
     period: u32,
-    deadline: u32,
     lock: u32,
     frame_count: u32,
     frames: [u32; MOST_FRAMES],
+    deadlines: [u32; MOST_FRAMES],
 }
 
 extern "C" {
     fn burrbeech_check_sheet(sheet: *const u8, sheet_len: usize, times: *mut u8, times_len: usize) -> u32;
     fn burrbeech_read_list(sheet: *const u8, sheet_len: usize, list: *mut Record, list_len: usize) -> u64;
-    fn burrbeech_write_list(policy: u32, list: *const Record, list_len: usize, sheet: *mut u8, sheet_len: usize) -> u64;
+    fn burrbeech_write_list(version: u32, policy: u32, list: *const Record, list_len: usize, sheet: *mut u8, sheet_len: usize) -> u64;
+    fn burrbeech_convert(version: u32, sheet: *const u8, sheet_len: usize, out: *mut u8, out_len: usize) -> u64;
     fn burrbeech_analyse_sheet(sheet: *const u8, sheet_len: usize, times: *mut u32, times_len: usize) -> u64;
     fn burrbeech_report(sheet: *const u8, sheet_len: usize, text: *mut u8, text_len: usize) -> u64;
 }
@@ -30,6 +31,9 @@ const NO_BLOCKER: usize = 16;
 
 /// `burrbeech_check_sheet` numbers misses from here on.
 const MISSES_FROM: usize = 100;
+
+/// The refusal of a set that version 1 cannot hold.
+pub const DEADLINES_DIFFER: u32 = 17;
 
 #[derive(Clone, Copy, Debug, PartialEq, Eq)]
 pub struct Refusal {
@@ -69,38 +73,62 @@ pub type Answer<T> = Result<Result<T, Refusal>, Trouble>;
 impl From<&Task> for Record {
     /// The count says how many frames there are, even if the record has no room for all of them.
     fn from(task: &Task) -> Self {
-        let mut frames = [0; MOST_FRAMES];
-        frames.iter_mut().zip(&task.frames).for_each(|(slot, &frame)| *slot = frame);
         let frame_count = u32::try_from(task.frames.len()).unwrap_or(u32::MAX);
-        Record { period: task.period, deadline: task.deadline, lock: task.lock, frame_count, frames }
+        let Task { period, lock, frames, deadlines } = task;
+        Record { period: *period, lock: *lock, frame_count, frames: slots(frames), deadlines: slots(deadlines) }
     }
+}
+
+/// The first eight numbers, with 0 where there are fewer.
+fn slots(numbers: &[u32]) -> [u32; MOST_FRAMES] {
+    let mut slots = [0; MOST_FRAMES];
+    slots.iter_mut().zip(numbers).for_each(|(slot, &number)| *slot = number);
+    slots
 }
 
 impl Record {
     fn task(&self) -> Option<Task> {
-        let frames = self.frames.get(..self.frame_count as usize)?.to_vec();
-        Some(Task { period: self.period, deadline: self.deadline, lock: self.lock, frames })
+        let used = |slots: &[u32]| slots.get(..self.frame_count as usize).map(<[u32]>::to_vec);
+        Some(Task { period: self.period, lock: self.lock, frames: used(&self.frames)?, deadlines: used(&self.deadlines)? })
     }
 }
 
-/// The set in a sheet.
+/// The set in a sheet, with the sheet's version.
 pub fn read(sheet: &[u8]) -> Answer<Set> {
     let mut list = [Record::default(); MOST_TASKS];
     // SAFETY: pointers and lengths are those of live slices that do not overlap
     let answer = unsafe { burrbeech_read_list(sheet.as_ptr(), sheet.len(), list.as_mut_ptr(), list.len()) };
     decoded(answer, |detail| {
-        let (count, policy) = ((detail & 0xFF) as usize, (detail >> 8 & 0xFF) as u32);
-        let tasks = list.get(..count)?.iter().map(Record::task).collect::<Option<Vec<Task>>>()?;
-        Some(Set { policy, tasks })
+        let [count, policy, version] = [0, 8, 16].map(|from| (detail >> from & 0xFF) as u32);
+        let tasks = list.get(..count as usize)?.iter().map(Record::task).collect::<Option<Vec<Task>>>()?;
+        let known = version == ONE_DEADLINE || version == BY_FRAME;
+        (known && detail >> 24 == 0).then_some(Set { version, policy, tasks })
     })
 }
 
 /// The sheet of a set.
-pub fn write(policy: u32, tasks: &[Task]) -> Answer<Vec<u8>> {
-    let list: Vec<Record> = tasks.iter().map(Record::from).collect();
+pub fn write(set: &Set) -> Answer<Vec<u8>> {
+    let list: Vec<Record> = set.tasks.iter().map(Record::from).collect();
     let mut sheet = vec![0; GREATEST_SHEET];
+    let (version, policy) = (set.version, set.policy);
     // SAFETY: as above
-    let answer = unsafe { burrbeech_write_list(policy, list.as_ptr(), list.len(), sheet.as_mut_ptr(), sheet.len()) };
+    let answer = unsafe { burrbeech_write_list(version, policy, list.as_ptr(), list.len(), sheet.as_mut_ptr(), sheet.len()) };
+    written(answer, &sheet)
+}
+
+/// The sheet of this version for a sheet of the other one.
+pub fn convert(version: u32, sheet: &[u8]) -> Answer<Vec<u8>> {
+    let mut out = vec![0; GREATEST_SHEET];
+    // SAFETY: as above
+    let answer = unsafe { burrbeech_convert(version, sheet.as_ptr(), sheet.len(), out.as_mut_ptr(), out.len()) };
+    written(answer, &out)
+}
+
+/// The bytes that an answer counts. Only what writes a sheet refuses a set for its deadlines.
+fn written(answer: u64, sheet: &[u8]) -> Answer<Vec<u8>> {
+    if answer == DEADLINES_DIFFER.into() {
+        return Ok(Err(Refusal { number: DEADLINES_DIFFER, task: None, no_start: None }));
+    }
     decoded(answer, |detail| {
         let length = usize::try_from(detail).ok()?;
         sheet.get(..length).map(<[u8]>::to_vec)
@@ -215,8 +243,21 @@ mod tests {
         assert_eq!(verdict_of(0, 17), None);
         assert_eq!(verdict_of(1 + 17 * 2, 2), None);
         assert_eq!(verdict_of(1 + 2, 2), None);
-        for answer in [12, 13, 99, 255, 1 << 8 | 1, 16 << 8 | 7, 16 << 8 | 9, 1 << 16 | 10] {
+        for answer in [12, 13, 17, 99, 255, 1 << 8 | 1, 16 << 8 | 7, 16 << 8 | 9, 1 << 16 | 10] {
             assert!(is_odd(answer), "{answer}");
+        }
+    }
+
+    /// 17 is an answer of what writes a sheet, and names no task.
+    #[test]
+    fn answers_about_a_written_sheet_decode() {
+        assert_eq!(written(2 << 8, b"abc").expect("an answer"), Ok(b"ab".to_vec()));
+        let refused = |number, task| Err(Refusal { number, task, no_start: None });
+        assert_eq!(written(17, b"abc").expect("an answer"), refused(17, None));
+        assert_eq!(written(3, b"abc").expect("an answer"), refused(3, None));
+        assert_eq!(written(1 << 8 | 9, b"abc").expect("an answer"), refused(9, Some(1)));
+        for answer in [4 << 8, 12, 15, 16, 18, 1 << 8 | 17, 1 << 8 | 3] {
+            assert!(matches!(written(answer, b"abc"), Err(Trouble::Disagreement(_))), "{answer}");
         }
     }
 

@@ -6,6 +6,7 @@ mod answers;
 mod arguments;
 mod check;
 mod compose;
+mod convert;
 mod course;
 mod delivery;
 mod demand;
@@ -81,7 +82,12 @@ fn run(request: Request, output: &mut Output) -> Result<Status, Trouble> {
         Request::ScriptShow { json, sheet, script } => {
             script_show::run(json, &sheet, &script, output).map_err(|trouble| trouble.about(&script))
         }
-        Request::Compose { table, to } => compose::run(&table, to.as_ref(), output).map_err(|trouble| trouble.about(&table)),
+        Request::Compose { table, version, to } => {
+            compose::run(&table, version, to.as_ref(), output).map_err(|trouble| trouble.about(&table))
+        }
+        Request::Convert { version, sheet, to } => {
+            convert::run(version, &sheet, to.as_ref(), output).map_err(|trouble| trouble.about(&sheet))
+        }
     }
 }
 

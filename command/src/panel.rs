@@ -4,6 +4,7 @@ mod marks;
 mod shares;
 
 use crate::course::Course;
+use crate::set::Task;
 use crate::svg::{px, Anchor, Svg, GRID, INK};
 
 /// Where the ticks begin, and the room behind the last.
@@ -158,14 +159,25 @@ impl<'a> Panel<'a> {
     /// The names of the lanes, left of all panels.
     fn labels(&self, svg: &mut Svg) {
         for (place, task) in self.order() {
-            let numbers = &self.course.findings.set.tasks[task];
+            let lines = numbers(&self.course.findings.set.tasks[task]);
             let y = self.baseline(place);
             svg.group("font-weight=\"bold\"", |svg| svg.text(20.0, y - 12.0, Anchor::Start, &format!("task {task}")));
-            let words = format!("T {}  D {}  Q {}", numbers.period, numbers.deadline, numbers.lock);
-            svg.group("font-size=\"9.5\" fill=\"#555\"", |svg| svg.text(20.0, y + 1.0, Anchor::Start, &words));
+            svg.group("font-size=\"9.5\" fill=\"#555\"", |svg| {
+                lines.iter().zip([1.0, 12.0]).for_each(|(line, below)| svg.text(20.0, y + below, Anchor::Start, line));
+            });
         }
         svg.text(20.0, self.idle_baseline(), Anchor::Start, "idle");
         svg.group("font-size=\"11\"", |svg| svg.text(20.0, self.axis() + 18.0, Anchor::Start, "tick"));
+    }
+}
+
+/// Period, deadline and lock; deadlines that differ take a line of their own.
+fn numbers(task: &Task) -> Vec<String> {
+    let (period, lock) = (task.period, task.lock);
+    let least_and_most = task.deadlines.iter().min().zip(task.deadlines.iter().max());
+    match (task.one_deadline(), least_and_most) {
+        (None, Some((least, most))) => vec![format!("T {period}  Q {lock}"), format!("D {least} to {most} by frame")],
+        (deadline, _) => vec![format!("T {period}  D {}  Q {lock}", deadline.unwrap_or(0))],
     }
 }
 

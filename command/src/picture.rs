@@ -4,6 +4,7 @@ use crate::course::Course;
 use crate::legend::Legend;
 use crate::lettering::{wrapped, BOLD};
 use crate::panel::{Panel, LEAST_PLOT, LEFT, PLOT, RIGHT};
+use crate::set::differ_by_frame;
 use crate::svg::{Anchor, Svg};
 
 /// The part of the play that is drawn, and what is said above it.
@@ -46,8 +47,10 @@ impl Picture<'_> {
 
     fn legend(&self, panels: &[Panel]) -> Legend {
         let missed = self.course.play.missed.is_some() && self.to == self.course.play.tick;
+        let tasks = &self.course.findings.set.tasks;
         Legend {
-            frames: self.course.findings.set.tasks.iter().any(|task| task.frames.len() > 1),
+            frames: tasks.iter().any(|task| task.frames.len() > 1),
+            by_frame: differ_by_frame(tasks),
             shares: panels.iter().any(Panel::is_dense),
             strokes: panels.iter().any(Panel::uses_strokes),
             parted: panels.iter().any(Panel::is_parted),

@@ -1,5 +1,5 @@
 //! `play`: how the run of a script ends, in words, and its last ticks as lanes.
-use crate::course::{self, due, Course, Job};
+use crate::course::{self, deadline, due, Course, Job};
 use crate::input::{self, Pipes};
 use crate::names::Name;
 use crate::output::Output;
@@ -104,9 +104,9 @@ pub fn missed_words(course: &Course) -> Option<String> {
 
 /// `released at 1, frame 0, due at 1 + 4 = 5; of its work, 2 ticks, 1 is left then`.
 fn job_words(course: &Course, job: &Job) -> String {
-    let Job { task, frame, released, work, left, .. } = *job;
-    let deadline = course.findings.set.tasks[usize::from(task)].deadline;
-    let due = format!("due at {released} + {deadline} = {}", due(&course.findings.set, job));
+    let Job { frame, released, work, left, .. } = *job;
+    let set = &course.findings.set;
+    let due = format!("due at {released} + {} = {}", deadline(set, job), due(set, job));
     let left = format!("of its work, {}, {left} {} left then", counted(work.into(), "tick"), if left == 1 { "is" } else { "are" });
     format!("released at {released}, frame {frame}, {due}; {left}")
 }
@@ -182,7 +182,7 @@ impl Tally {
         let finding = course.findings.ordered.iter().find(|finding| finding.task == self.task);
         match finding.and_then(|finding| finding.times.as_ref()?.get(usize::from(job.frame))) {
             Some(time) => format!("response time {time}"),
-            None => format!("deadline {}, the task does not pass", course.findings.set.tasks[self.task].deadline),
+            None => format!("deadline {}, the task does not pass", deadline(&course.findings.set, job)),
         }
     }
 }

@@ -256,8 +256,8 @@ mod tests {
 
     /// Case F, and entries that its tasks may have.
     fn of_f(change: impl FnOnce(&mut Vec<Entry>)) -> (Set, Vec<u8>) {
-        let task = |period, deadline, lock, frame| Task { period, deadline, lock, frames: vec![frame] };
-        let set = Set { policy: 0, tasks: vec![task(10, 4, 0, 2), task(20, 20, 3, 5)] };
+        let task = |period, deadline, lock, frame| Task { period, lock, frames: vec![frame], deadlines: vec![deadline] };
+        let set = Set { version: 1, policy: 0, tasks: vec![task(10, 4, 0, 2), task(20, 20, 3, 5)] };
         let entry = |task, tick, work, lock| Entry { task, tick, work, lock };
         let mut entries = vec![entry(1, 0, 5, 3), entry(0, 1, 2, 0), entry(0, 11, 0, 0), entry(1, 20, 1, 1), entry(0, 25, 2, 0)];
         change(&mut entries);

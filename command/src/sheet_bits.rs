@@ -1,14 +1,18 @@
 //! The fields of a sheet as they stand, for words about a refused one. Nothing is decided here.
-use crate::set::{Task, GREATEST_SHEET, LEAST_SHEET, MOST_FRAMES};
+use crate::set::{Task, BY_FRAME, GREATEST_SHEET, LEAST_SHEET, MOST_FRAMES, ONE_DEADLINE};
 
 pub const CHECK_BYTES: usize = 2;
 const TICKS_BITS: usize = 20;
+const COUNT_BITS: usize = 4;
 
-/// The bits of a record before its frames.
-pub const FIXED_BITS: usize = 64;
-
-/// The one version whose records are known.
-pub const VERSION: u32 = 1;
+/// Where the records of a version have their deadlines.
+#[derive(Clone, Copy, Debug, PartialEq, Eq)]
+pub enum Layout {
+    /// Before the lock, one for all frames.
+    InTheRecord,
+    /// Behind each frame time.
+    BehindEachFrame,
+}
 
 #[derive(Clone, Debug)]
 pub struct SheetBits {
@@ -26,6 +30,8 @@ pub struct SheetBits {
 #[derive(Clone, Debug)]
 pub struct RecordBits {
     pub frame_count: u32,
+    /// The deadline before the lock, where the version has one there.
+    pub deadline: Option<u32>,
     /// With the frames that are there.
     pub task: Task,
 }
@@ -35,23 +41,52 @@ pub struct RecordBits {
 pub enum End {
     /// After the last record, with these bits behind it.
     Left(String),
-    /// The fixed bits of the next record are not all there: so many are.
-    FixedCut(usize),
-    /// The frames of the last record are not all there: so many bits are.
-    FramesCut(usize),
+    /// The fixed bits of the next record are not all there.
+    FixedCut(Cut),
+    /// The frames of the last record are not all there.
+    FramesCut(Cut),
     /// The last record's frame count cannot be one, so that where it ends is not known.
     FrameCount,
     /// The records of this version are not known.
     Version,
 }
 
+/// How many bits are needed, and how many are there.
+#[derive(Clone, Copy, Debug, PartialEq, Eq)]
+pub struct Cut {
+    pub needed: usize,
+    pub there: usize,
+}
+
+impl Layout {
+    pub fn of(version: u32) -> Option<Self> {
+        match version {
+            ONE_DEADLINE => Some(Layout::InTheRecord),
+            BY_FRAME => Some(Layout::BehindEachFrame),
+            _ => None,
+        }
+    }
+
+    /// The bits of a record before its frames.
+    fn fixed_bits(self) -> usize {
+        match self {
+            Layout::InTheRecord => 3 * TICKS_BITS + COUNT_BITS,
+            Layout::BehindEachFrame => 2 * TICKS_BITS + COUNT_BITS,
+        }
+    }
+
+    /// The bits of a frame.
+    fn frame_bits(self) -> usize {
+        match self {
+            Layout::InTheRecord => TICKS_BITS,
+            Layout::BehindEachFrame => 2 * TICKS_BITS,
+        }
+    }
+}
+
 impl RecordBits {
     pub fn frame_count_is_allowed(&self) -> bool {
         (1..=MOST_FRAMES as u32).contains(&self.frame_count)
-    }
-
-    pub fn frame_bits(&self) -> usize {
-        self.frame_count as usize * TICKS_BITS
     }
 }
 
@@ -77,6 +112,10 @@ impl Bits<'_> {
         (0..width).fold(0, |value, _| value << 1 | self.next())
     }
 
+    fn ticks(&mut self) -> u32 {
+        self.take(TICKS_BITS)
+    }
+
     /// The next bits as digits.
     fn digits(&mut self, width: usize) -> String {
         (0..width).map(|_| if self.next() == 1 { '1' } else { '0' }).collect()
@@ -91,44 +130,48 @@ pub fn read(sheet: &[u8]) -> Option<SheetBits> {
     let (body, word) = sheet.split_last_chunk::<CHECK_BYTES>()?;
     let mut bits = Bits { bytes: body, at: 0 };
     let (version, policy, task_count, spare) = (bits.take(4), bits.take(2), bits.take(5), bits.digits(5));
-    let (records, end) = match version {
-        VERSION => read_records(&mut bits, task_count),
-        _ => (Vec::new(), End::Version),
+    let (records, end) = match Layout::of(version) {
+        Some(layout) => read_records(&mut bits, layout, task_count),
+        None => (Vec::new(), End::Version),
     };
     let stated_word = u16::from_be_bytes(*word);
     Some(SheetBits { stated_word, computed_word: check_word(body), version, policy, task_count, spare, records, end })
 }
 
 /// The records as far as it is known where each starts.
-fn read_records(bits: &mut Bits, task_count: u32) -> (Vec<RecordBits>, End) {
+fn read_records(bits: &mut Bits, layout: Layout, task_count: u32) -> (Vec<RecordBits>, End) {
     let mut records = Vec::new();
     for _ in 0..task_count {
-        if bits.left() < FIXED_BITS {
-            return (records, End::FixedCut(bits.left()));
+        let fixed = Cut { needed: layout.fixed_bits(), there: bits.left() };
+        if fixed.there < fixed.needed {
+            return (records, End::FixedCut(fixed));
         }
-        let (record, cut) = read_record(bits);
+        let (record, frames) = read_record(bits, layout);
         let allowed = record.frame_count_is_allowed();
         records.push(record);
-        match cut {
-            Some(there) => return (records, End::FramesCut(there)),
-            None if !allowed => return (records, End::FrameCount),
-            None => {}
+        if !allowed {
+            return (records, End::FrameCount);
+        }
+        if frames.there < frames.needed {
+            return (records, End::FramesCut(frames));
         }
     }
     let left = bits.left();
     (records, End::Left(bits.digits(left)))
 }
 
-/// A record whose fixed bits are there, and how many bits there are for its frames if they are too few.
-fn read_record(bits: &mut Bits) -> (RecordBits, Option<usize>) {
-    let (period, deadline, lock) = (bits.take(TICKS_BITS), bits.take(TICKS_BITS), bits.take(TICKS_BITS));
-    let frame_count = bits.take(4);
-    let there = bits.left();
-    let whole = (there / TICKS_BITS).min(frame_count as usize);
-    let frames = (0..whole).map(|_| bits.take(TICKS_BITS)).collect();
-    let record = RecordBits { frame_count, task: Task { period, deadline, lock, frames } };
-    let cut = record.frame_count_is_allowed() && whole < frame_count as usize;
-    (record, cut.then_some(there))
+/// A record whose fixed bits are there with the frames that are, and the bits for its frames.
+fn read_record(bits: &mut Bits, layout: Layout) -> (RecordBits, Cut) {
+    let period = bits.ticks();
+    let deadline = (layout == Layout::InTheRecord).then(|| bits.ticks());
+    let (lock, frame_count) = (bits.ticks(), bits.take(COUNT_BITS));
+    let cut = Cut { needed: frame_count as usize * layout.frame_bits(), there: bits.left() };
+    let mut task = Task { period, lock, ..Task::default() };
+    for _ in 0..cut.there.min(cut.needed) / layout.frame_bits() {
+        task.frames.push(bits.ticks());
+        task.deadlines.push(deadline.unwrap_or_else(|| bits.ticks()));
+    }
+    (RecordBits { frame_count, deadline, task }, cut)
 }
 
 /// The check word bit by bit: of a sheet to tell what it should have been, of a script that the command makes to seal it.

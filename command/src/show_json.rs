@@ -7,16 +7,21 @@ use crate::names::Name;
 use crate::set::{policy_name, Set, Task};
 use crate::sheet_bits::{self, RecordBits, SheetBits};
 
-/// Number, period, deadline, lock and frames.
+/// Number, period, the smallest deadline, lock, frames and the deadline of each.
 pub fn task_object(number: usize, task: &Task) -> Object {
-    let object = Object::new().number("task", number as u64).number("period", task.period).number("deadline", task.deadline);
-    object.number("lock", task.lock).raw("frames", &array(&task.frames))
+    object_with(number, task, task.smallest_deadline())
+}
+
+fn object_with(number: usize, task: &Task, deadline: Option<u32>) -> Object {
+    let deadline = deadline.map_or("null".to_string(), |deadline| deadline.to_string());
+    let object = Object::new().number("task", number as u64).number("period", task.period).raw("deadline", &deadline);
+    object.number("lock", task.lock).raw("frames", &array(&task.frames)).raw("deadlines", &array(&task.deadlines))
 }
 
 pub fn admitted(name: &Name, set: &Set) -> String {
     let list = array(set.tasks.iter().enumerate().map(|(number, task)| task_object(number, task).close()));
     let object = Object::new().text("file", &name.plain()).truth("admitted", true).number("tasks", set.tasks.len() as u64);
-    policy(object, set.policy).raw("list", &list).close() + "\n"
+    policy(object.number("version", set.version), set.policy).raw("list", &list).close() + "\n"
 }
 
 pub fn refused(name: &Name, refusal: Refusal, fault: &Fault, sheet: &[u8]) -> String {
@@ -33,8 +38,10 @@ fn fields(object: Object, bits: &SheetBits) -> Object {
     let word = |word: u16| format!("{word:04X}");
     let object = object.text("check_word", &word(bits.stated_word)).text("computed_check_word", &word(bits.computed_word));
     let object = policy(object.number("version", bits.version), bits.policy).number("tasks", bits.task_count);
-    let record =
-        |(number, record): (usize, &RecordBits)| task_object(number, &record.task).number("frame_count", record.frame_count).close();
+    let record = |(number, record): (usize, &RecordBits)| {
+        let deadline = record.deadline.or(record.task.smallest_deadline());
+        object_with(number, &record.task, deadline).number("frame_count", record.frame_count).close()
+    };
     object.text("spare", &bits.spare).raw("list", &array(bits.records.iter().enumerate().map(record)))
 }
 

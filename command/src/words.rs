@@ -1,35 +1,36 @@
 //! The words for verdicts, policies and refusal numbers.
-use crate::library::{Refusal, Verdict};
+use crate::library::{Refusal, Verdict, DEADLINES_DIFFER};
 use crate::plays::ScriptRefusal;
-use crate::set::policy_name;
+use crate::set::{differ_by_frame, policy_name, Set};
 
-/// What each refusal number says, from 1 on, in the words of `burrbeech_refusal_words` of the header.
-const REFUSALS: [&str; 14] = [
-    "shorter than 15 or longer than 452 bytes",
-    "check word wrong",
-    "version not 1",
-    "policy not 0, 1 or 2",
-    "a spare or fill bit set",
-    "task count 0 or over 16",
-    "frame count 0 or over 8",
-    "records run past the check word, or 8 or more bits remain after the last",
-    "a task out of range or not well formed",
-    "lock above the largest frame",
-    "not accumulatively monotonic",
-    "lent room too small",
-    "length, fill or check word of the script wrong",
-    "a first frame or an entry of the script out of range, out of order or against a run rule",
+/// Each refusal's number and what it says, in the words of `burrbeech_refusal_words` of the header.
+const REFUSALS: [(u32, &str); 15] = [
+    (1, "shorter than 15 or longer than 732 bytes"),
+    (2, "check word wrong"),
+    (3, "version neither 1 nor 2, or not the converter's"),
+    (4, "policy not 0, 1 or 2"),
+    (5, "a spare or fill bit set"),
+    (6, "task count 0 or over 16"),
+    (7, "frame count 0 or over 8"),
+    (8, "records run past the check word, or 8 or more bits remain after the last"),
+    (9, "a task out of range or not well formed"),
+    (10, "lock above the largest frame"),
+    (11, "not accumulatively monotonic"),
+    (12, "lent room too small"),
+    (13, "length, fill or check word of the script wrong"),
+    (14, "a first frame or an entry of the script out of range, out of order or against a run rule"),
+    (DEADLINES_DIFFER, "a set that version 1 cannot hold: the deadlines of a task differ"),
 ];
 
 /// The short words for a refusal's number.
 pub fn short(number: u32) -> &'static str {
-    let slot = (number as usize).checked_sub(1);
-    slot.and_then(|slot| REFUSALS.get(slot)).copied().unwrap_or("a refusal that this version does not know")
+    let said = REFUSALS.iter().find(|(refusal, _)| *refusal == number);
+    said.map_or("a refusal that this version does not know", |(_, words)| words)
 }
 
 /// A line for each number.
 pub fn refusals() -> String {
-    (1..=REFUSALS.len() as u32).map(|number| format!("{number:2}  {}\n", short(number))).collect()
+    REFUSALS.iter().map(|(number, words)| format!("{number:2}  {words}\n")).collect()
 }
 
 /// `refused 9 (task 1)`.
@@ -75,14 +76,17 @@ pub fn verdict(verdict: Verdict, task_count: usize) -> String {
 }
 
 /// The policy by number and name, and what it says.
-pub fn policy(policy: u32) -> String {
-    let name = policy_name(policy).unwrap_or("unknown");
-    let rule = match policy {
+pub fn policy(set: &Set) -> String {
+    let name = policy_name(set.policy).unwrap_or("unknown");
+    let rule = match set.policy {
         0 => "task 0 has the highest priority, then task 1 and so on",
         1 => "the shorter period has the higher priority; of equal ones the lower task number",
+        _ if differ_by_frame(&set.tasks) => {
+            "the shorter deadline has the higher priority, of a task's deadlines the smallest; of equal ones the lower task number"
+        }
         _ => "the shorter deadline has the higher priority; of equal ones the lower task number",
     };
-    format!("Policy {policy}, {name}: {rule}.")
+    format!("Policy {}, {name}: {rule}.", set.policy)
 }
 
 /// `1 tick`, `2 ticks`.

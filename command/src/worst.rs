@@ -1,6 +1,6 @@
 //! `worst`: the worst run of a missed set as a script, which the library writes.
-use crate::answers::{line, status_of_verdict, unread, verdict_object};
-use crate::course::{self, Course};
+use crate::answers::{line, object, status_of_verdict, unread, verdict_object};
+use crate::course::{self, due, Course};
 use crate::delivery::{say, Made};
 use crate::findings::{self, Findings};
 use crate::library::{Refusal, Verdict};
@@ -69,10 +69,11 @@ fn same_refusal(sheet: &[u8], refusal: Refusal) -> library::Answer<Option<Worst>
     }
 }
 
-/// The named task's job is released at tick 1 with this frame, and misses.
+/// The named task's job is released at tick 1 with this frame, the first without a response time, and misses by its deadline.
 fn ends_so(course: &Course, findings: &Findings, task: usize, frame: usize) -> bool {
+    let is_first = findings.ordered.iter().any(|finding| finding.task == task && finding.missed_frame == Some(frame));
     let job = course.missed_job().filter(|job| usize::from(job.task) == task && usize::from(job.frame) == frame && job.released == 1);
-    job.is_some() && course.play.tick == 1 + findings.set.tasks[task].deadline
+    is_first && job.is_some_and(|job| course.play.tick == due(&findings.set, job))
 }
 
 /// That a set holds, with its line of `check`. A file that is there from before is not to be taken for a worst run of this set.
@@ -86,10 +87,7 @@ pub fn holds(json: bool, sheet: &Name, to: Option<&Name>, bytes: &[u8]) -> Resul
     };
     let words = format!("No job misses, in any run: there is no worst run to show, and nothing is written{kept}.");
     match &answer {
-        Ok(analysis) if json => {
-            let object = verdict_object(sheet, analysis.verdict, analysis.task_count);
-            Ok(object.raw("script", "null").close() + "\n")
-        }
+        Ok(_) if json => Ok(object(sheet, bytes, &answer)?.raw("script", "null").close() + "\n"),
         _ => Ok(format!("{}\n{words}\n", line(sheet, &answer))),
     }
 }
@@ -114,7 +112,7 @@ impl Worst {
 
     fn object(&self, sheet: &Name, to: Option<&Name>) -> String {
         let findings = &self.course.findings;
-        let object = verdict_object(sheet, findings.verdict, findings.set.tasks.len());
+        let object = verdict_object(sheet, findings.verdict, findings.set.tasks.len(), findings.set.version);
         let object = object.number("frame", self.frame as u64).number("released", 1u32).number("tick", self.course.play.tick);
         let object = object.number("entries", self.course.jobs.len() as u64).number("bytes", self.script.len() as u64);
         object.text("script", &to.unwrap_or(&Name::StandardOutput).plain()).close() + "\n"

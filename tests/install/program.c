@@ -1,6 +1,7 @@
 /* Every entry, from C, against the installed header and library: says what they answer on the sheets of cases F, G and
- * I, in the folder that is the argument. With --version it says the header's version, by its numbers and as text; with
- * --refusals the header's words for each number. */
+ * I, of case N, which is in version 2, and of J with other deadlines, in the folder that is the argument. With
+ * --version it says the header's version, by its numbers and as text; with --refusals the header's words for each
+ * number. */
 #include <burrbeech.h>
 
 #include <stdio.h>
@@ -69,6 +70,11 @@ static void print_analysis(const char *name, const char *what, uint64_t answer, 
     printf("\n");
 }
 
+static const char *same_bytes(const struct sheet *sheet, const uint8_t *bytes, size_t length)
+{
+    return length == sheet->len && memcmp(bytes, sheet->bytes, length) == 0 ? "the same" : "other ones";
+}
+
 static void print_lists(const struct sheet *sheet)
 {
     struct burrbeech_task list[BURRBEECH_TASKS_MAX];
@@ -76,13 +82,45 @@ static void print_lists(const struct sheet *sheet)
     uint8_t back[BURRBEECH_SHEET_MAX];
     uint64_t answer = burrbeech_read_list(sheet->bytes, sheet->len, list, BURRBEECH_TASKS_MAX);
     size_t tasks = burrbeech_read_tasks(answer);
-    uint32_t policy = burrbeech_read_policy(answer);
-    printf("%s read: refusal %u, %zu tasks, policy %u\n", sheet->name, (unsigned)burrbeech_refusal(answer), tasks,
-           (unsigned)policy);
+    uint32_t policy = burrbeech_read_policy(answer), version = burrbeech_read_version(answer);
+    printf("%s read: refusal %u, %zu tasks, policy %u, version %u\n", sheet->name, (unsigned)burrbeech_refusal(answer),
+           tasks, (unsigned)policy, (unsigned)version);
     print_analysis(sheet->name, "list", burrbeech_analyse_list(policy, list, tasks, times, BURRBEECH_TIMES_MAX), times);
-    size_t written = burrbeech_written_bytes(burrbeech_write_list(policy, list, tasks, back, sizeof back));
-    bool same = written == sheet->len && memcmp(back, sheet->bytes, written) == 0;
-    printf("%s written: %zu bytes, %s\n", sheet->name, written, same ? "the same" : "other ones");
+    answer = burrbeech_write_list(version, policy, list, tasks, back, sizeof back);
+    size_t written = burrbeech_written_bytes(answer);
+    printf("%s written: refusal %u, %zu bytes, %s\n", sheet->name, (unsigned)burrbeech_refusal(answer), written,
+           same_bytes(sheet, back, written));
+}
+
+/* To version 2 and back. */
+static void print_converted(const struct sheet *sheet)
+{
+    uint8_t there[BURRBEECH_SHEET_MAX], back[BURRBEECH_SHEET_MAX];
+    uint64_t answer = burrbeech_convert(BURRBEECH_SHEET_VERSION_2, sheet->bytes, sheet->len, there, sizeof there);
+    size_t length = burrbeech_written_bytes(answer);
+    printf("%s converted: refusal %u, %zu bytes\n", sheet->name, (unsigned)burrbeech_refusal(answer), length);
+    answer = burrbeech_convert(BURRBEECH_SHEET_VERSION_1, there, length, back, sizeof back);
+    printf("%s and back: refusal %u, %s\n", sheet->name, (unsigned)burrbeech_refusal(answer),
+           same_bytes(sheet, back, burrbeech_written_bytes(answer)));
+}
+
+/* The set with each frame's time as its deadline: only version 2 can hold it. */
+static void print_deadlines(const struct sheet *sheet)
+{
+    struct burrbeech_task list[BURRBEECH_TASKS_MAX];
+    uint32_t times[BURRBEECH_TIMES_MAX];
+    uint8_t back[BURRBEECH_SHEET_MAX];
+    uint64_t answer = burrbeech_read_list(sheet->bytes, sheet->len, list, BURRBEECH_TASKS_MAX);
+    size_t tasks = burrbeech_read_tasks(answer);
+    for (size_t task = 0; task < tasks; task++) {
+        memcpy(list[task].deadlines, list[task].frames, sizeof list[task].deadlines);
+    }
+    answer = burrbeech_analyse_list(BURRBEECH_POLICY_LISTED, list, tasks, times, BURRBEECH_TIMES_MAX);
+    print_analysis(sheet->name, "with its times as deadlines", answer, times);
+    answer = burrbeech_write_list(BURRBEECH_SHEET_VERSION_1, 0, list, tasks, back, sizeof back);
+    printf("%s in version 1: refusal %u\n", sheet->name, (unsigned)burrbeech_refusal(answer));
+    answer = burrbeech_write_list(BURRBEECH_SHEET_VERSION_2, 0, list, tasks, back, sizeof back);
+    printf("%s in version 2: %zu bytes\n", sheet->name, burrbeech_written_bytes(answer));
 }
 
 /* The worst run, its play and the ticks of it; the room is enough for the cases. */
@@ -115,6 +153,7 @@ static void print_sheet(const struct sheet *sheet)
     print_analysis(sheet->name, "sheet", burrbeech_analyse_sheet(sheet->bytes, sheet->len, times, BURRBEECH_TIMES_MAX),
                    times);
     print_lists(sheet);
+    print_converted(sheet);
     size_t length = burrbeech_report_length(burrbeech_report(sheet->bytes, sheet->len, text, sizeof text));
     fwrite(text, 1, length, stdout);
     print_runs(sheet);
@@ -122,17 +161,23 @@ static void print_sheet(const struct sheet *sheet)
 
 static void print_sheets(const char *folder)
 {
-    struct sheet sheets[3] = {{"f", {0}, 0}, {"g", {0}, 0}, {"i", {0}, 0}};
-    for (size_t i = 0; i < 3; i++) {
+    struct sheet sheets[4] = {{"f", {0}, 0}, {"g", {0}, 0}, {"i", {0}, 0}, {"n", {0}, 0}}, j = {"j", {0}, 0};
+    for (size_t i = 0; i < 4; i++) {
         read_sheet(folder, &sheets[i]);
         print_sheet(&sheets[i]);
     }
+    read_sheet(folder, &j);
+    print_deadlines(&j);
 }
 
+/* Of the numbers that there are. */
 static void print_refusals(void)
 {
-    for (uint32_t refusal = BURRBEECH_REFUSAL_LENGTH; refusal <= BURRBEECH_REFUSAL_ITEM; refusal++) {
-        printf("%u %s\n", (unsigned)refusal, burrbeech_refusal_words(refusal));
+    const char *none = burrbeech_refusal_words(99);
+    for (uint32_t refusal = BURRBEECH_REFUSAL_LENGTH; refusal <= BURRBEECH_REFUSAL_DEADLINES; refusal++) {
+        if (strcmp(burrbeech_refusal_words(refusal), none) != 0) {
+            printf("%u %s\n", (unsigned)refusal, burrbeech_refusal_words(refusal));
+        }
     }
 }
 

@@ -1,6 +1,7 @@
 // Every entry, from C++: prints what program.c prints.
 #include <burrbeech.h>
 
+#include <algorithm>
 #include <fstream>
 #include <iostream>
 #include <iterator>
@@ -66,15 +67,46 @@ static void print_lists(const std::string &name, const Bytes &sheet)
     Bytes back(BURRBEECH_SHEET_MAX);
     uint64_t answer = burrbeech_read_list(sheet.data(), sheet.size(), list.data(), list.size());
     list.resize(burrbeech_read_tasks(answer));
-    uint32_t policy = burrbeech_read_policy(answer);
+    uint32_t policy = burrbeech_read_policy(answer), version = burrbeech_read_version(answer);
     std::cout << name << " read: refusal " << burrbeech_refusal(answer) << ", " << list.size() << " tasks, policy "
-              << policy << "\n";
+              << policy << ", version " << version << "\n";
     print_analysis(name + " list", burrbeech_analyse_list(policy, list.data(), list.size(), times.data(), times.size()),
                    times);
-    back.resize(
-        burrbeech_written_bytes(burrbeech_write_list(policy, list.data(), list.size(), back.data(), back.size())));
-    std::cout << name << " written: " << back.size() << " bytes, " << (back == sheet ? "the same" : "other ones")
-              << "\n";
+    answer = burrbeech_write_list(version, policy, list.data(), list.size(), back.data(), back.size());
+    back.resize(burrbeech_written_bytes(answer));
+    std::cout << name << " written: refusal " << burrbeech_refusal(answer) << ", " << back.size() << " bytes, "
+              << (back == sheet ? "the same" : "other ones") << "\n";
+}
+
+static void print_converted(const std::string &name, const Bytes &sheet)
+{
+    Bytes there(BURRBEECH_SHEET_MAX), back(BURRBEECH_SHEET_MAX);
+    uint64_t answer =
+        burrbeech_convert(BURRBEECH_SHEET_VERSION_2, sheet.data(), sheet.size(), there.data(), there.size());
+    there.resize(burrbeech_written_bytes(answer));
+    std::cout << name << " converted: refusal " << burrbeech_refusal(answer) << ", " << there.size() << " bytes\n";
+    answer = burrbeech_convert(BURRBEECH_SHEET_VERSION_1, there.data(), there.size(), back.data(), back.size());
+    back.resize(burrbeech_written_bytes(answer));
+    std::cout << name << " and back: refusal " << burrbeech_refusal(answer) << ", "
+              << (back == sheet ? "the same" : "other ones") << "\n";
+}
+
+static void print_deadlines(const std::string &name, const Bytes &sheet)
+{
+    std::vector<burrbeech_task> list(BURRBEECH_TASKS_MAX);
+    std::vector<uint32_t> times(BURRBEECH_TIMES_MAX);
+    Bytes back(BURRBEECH_SHEET_MAX);
+    uint64_t answer = burrbeech_read_list(sheet.data(), sheet.size(), list.data(), list.size());
+    list.resize(burrbeech_read_tasks(answer));
+    for (burrbeech_task &task : list) {
+        std::copy(std::begin(task.frames), std::end(task.frames), std::begin(task.deadlines));
+    }
+    answer = burrbeech_analyse_list(BURRBEECH_POLICY_LISTED, list.data(), list.size(), times.data(), times.size());
+    print_analysis(name + " with its times as deadlines", answer, times);
+    answer = burrbeech_write_list(BURRBEECH_SHEET_VERSION_1, 0, list.data(), list.size(), back.data(), back.size());
+    std::cout << name << " in version 1: refusal " << burrbeech_refusal(answer) << "\n";
+    answer = burrbeech_write_list(BURRBEECH_SHEET_VERSION_2, 0, list.data(), list.size(), back.data(), back.size());
+    std::cout << name << " in version 2: " << burrbeech_written_bytes(answer) << " bytes\n";
 }
 
 static void print_runs(const std::string &name, const Bytes &sheet)
@@ -100,8 +132,8 @@ static void print_runs(const std::string &name, const Bytes &sheet)
 
 int main(int argc, char **argv)
 {
-    const char *const names[] = {"f", "g", "i"};
-    for (size_t i = 0; argc == 2 && i < 3; i++) {
+    const char *const names[] = {"f", "g", "i", "n"};
+    for (size_t i = 0; argc == 2 && i < 4; i++) {
         const std::string name = names[i];
         const Bytes sheet = read_sheet(std::string(argv[1]) + "/" + name + ".sheet");
         std::vector<uint32_t> times(BURRBEECH_TIMES_MAX);
@@ -110,10 +142,14 @@ int main(int argc, char **argv)
         print_analysis(name + " sheet", burrbeech_analyse_sheet(sheet.data(), sheet.size(), times.data(), times.size()),
                        times);
         print_lists(name, sheet);
+        print_converted(name, sheet);
         uint64_t answer =
             burrbeech_report(sheet.data(), sheet.size(), reinterpret_cast<uint8_t *>(&text[0]), text.size());
         std::cout << text.substr(0, burrbeech_report_length(answer));
         print_runs(name, sheet);
+    }
+    if (argc == 2) {
+        print_deadlines("j", read_sheet(std::string(argv[1]) + "/j.sheet"));
     }
     return std::cout.flush() ? 0 : 3;
 }

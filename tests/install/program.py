@@ -8,7 +8,9 @@ from pathlib import Path
 class Task(ctypes.Structure):
     """A task record."""
 
-    _fields_ = [(name, c_uint32) for name in ("period", "deadline", "lock", "frame_count")] + [("frames", c_uint32 * 8)]
+    _fields_ = [(name, c_uint32) for name in ("period", "lock", "frame_count")] + [
+        (name, c_uint32 * 8) for name in ("frames", "deadlines")
+    ]
 
 
 BYTES, NUMBERS, TASKS = (c_uint8, POINTER(c_uint8)), (c_uint32, POINTER(c_uint32)), (Task, POINTER(Task))
@@ -25,7 +27,8 @@ def entry(name, answer, *arguments):
 
 check_sheet = entry("check_sheet", c_uint32, BYTES, BYTES)
 read_list = entry("read_list", c_uint64, BYTES, TASKS)
-write_list = entry("write_list", c_uint64, c_uint32, TASKS, BYTES)
+write_list = entry("write_list", c_uint64, c_uint32, c_uint32, TASKS, BYTES)
+convert = entry("convert", c_uint64, c_uint32, BYTES, BYTES)
 analyse_list = entry("analyse_list", c_uint64, c_uint32, TASKS, NUMBERS)
 analyse_sheet = entry("analyse_sheet", c_uint64, BYTES, NUMBERS)
 report = entry("report", c_uint64, BYTES, BYTES)
@@ -63,14 +66,35 @@ def print_analysis(name, answer, times):
 
 
 def print_lists(name, sheet):
-    tasks, times, back = (Task * 16)(), (c_uint32 * 128)(), (c_uint8 * 452)()
+    tasks, times, back = (Task * 16)(), (c_uint32 * 128)(), (c_uint8 * 732)()
     refusal, detail = opened(read_list(sheet, len(sheet), tasks, len(tasks)))
-    count, policy = (0, 0) if refusal else (detail & 0xFF, detail >> 8 & 0xFF)
-    print(f"{name} read: refusal {refusal}, {count} tasks, policy {policy}")
+    count, policy, version = (0, 0, 0) if refusal else detail.to_bytes(3, "little")
+    print(f"{name} read: refusal {refusal}, {count} tasks, policy {policy}, version {version}")
     print_analysis(f"{name} list", analyse_list(policy, tasks, count, times, len(times)), times)
-    refusal, detail = opened(write_list(policy, tasks, count, back, len(back)))
-    written = 0 if refusal else detail
-    print(f"{name} written: {written} bytes, {'the same' if back[:written] == sheet[:] else 'other ones'}")
+    refusal, written = opened(write_list(version, policy, tasks, count, back, len(back)))
+    same = "the same" if not refusal and back[:written] == sheet[:] else "other ones"
+    print(f"{name} written: refusal {refusal}, {written} bytes, {same}")
+
+
+def print_converted(name, sheet):
+    there, back = (c_uint8 * 732)(), (c_uint8 * 732)()
+    refusal, detail = opened(convert(2, sheet, len(sheet), there, len(there)))
+    length = 0 if refusal else detail
+    print(f"{name} converted: refusal {refusal}, {length} bytes")
+    refusal, detail = opened(convert(1, there, length, back, len(back)))
+    same = "the same" if not refusal and back[:detail] == sheet[:] else "other ones"
+    print(f"{name} and back: refusal {refusal}, {same}")
+
+
+def print_deadlines(name, sheet):
+    tasks, times, back = (Task * 16)(), (c_uint32 * 128)(), (c_uint8 * 732)()
+    refusal, detail = opened(read_list(sheet, len(sheet), tasks, len(tasks)))
+    count = detail & 0xFF
+    for task in tasks[:count]:
+        task.deadlines = task.frames
+    print_analysis(f"{name} with its times as deadlines", analyse_list(0, tasks, count, times, len(times)), times)
+    print(f"{name} in version 1: refusal {opened(write_list(1, 0, tasks, count, back, len(back)))[0]}")
+    print(f"{name} in version 2: {opened(write_list(2, 0, tasks, count, back, len(back)))[1]} bytes")
 
 
 def print_runs(name, sheet):
@@ -87,11 +111,17 @@ def print_runs(name, sheet):
     print(f"{name} traced:", *(f"{tick & 31}{'L' if tick & 32 else ''}" for tick in ticks[: detail & 0xFFFFFFFF]))
 
 
-for name in ("f", "g", "i"):
+def read_sheet(name):
     content = Path(sys.argv[2], name + ".sheet").read_bytes()
-    sheet, times, text = (c_uint8 * len(content))(*content), (c_uint32 * 128)(), (c_uint8 * 2048)()
+    return (c_uint8 * len(content))(*content)
+
+
+for name in ("f", "g", "i", "n"):
+    sheet, times, text = read_sheet(name), (c_uint32 * 128)(), (c_uint8 * 2048)()
     print_check(name, sheet)
     print_analysis(f"{name} sheet", analyse_sheet(sheet, len(sheet), times, len(times)), times)
     print_lists(name, sheet)
+    print_converted(name, sheet)
     print(bytes(text[: opened(report(sheet, len(sheet), text, len(text)))[1]]).decode("ascii"), end="")
     print_runs(name, sheet)
+print_deadlines("j", read_sheet("j"))

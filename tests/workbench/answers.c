@@ -15,18 +15,28 @@ static uint64_t refused(uint32_t number, uint64_t detail)
 static bool says_nothing_else(uint64_t answer)
 {
     return burrbeech_read_tasks(answer) == 0 && burrbeech_read_policy(answer) == 0 &&
-           burrbeech_written_bytes(answer) == 0 && burrbeech_report_length(answer) == 0 &&
-           burrbeech_analysed_tasks(answer) == 0 && burrbeech_analysed_outcome(answer) == 0 &&
-           !burrbeech_analysed_holds(answer) && !burrbeech_analysed_missed(answer) &&
-           burrbeech_analysed_missed_task(answer) == 0 &&
+           burrbeech_read_version(answer) == 0 && burrbeech_written_bytes(answer) == 0 &&
+           burrbeech_report_length(answer) == 0 && burrbeech_analysed_tasks(answer) == 0 &&
+           burrbeech_analysed_outcome(answer) == 0 && !burrbeech_analysed_holds(answer) &&
+           !burrbeech_analysed_missed(answer) && burrbeech_analysed_missed_task(answer) == 0 &&
            burrbeech_analysed_missed_blocker(answer) == BURRBEECH_NO_BLOCKER && burrbeech_play_tick(answer) == 0 &&
            burrbeech_play_task(answer) == BURRBEECH_NO_TASK && !burrbeech_play_missed(answer) &&
            !burrbeech_play_done(answer) && burrbeech_worst_run_length(answer) == 0;
 }
 
+/* Whether there is a refusal of this number. */
+static bool is_refusal(uint32_t number)
+{
+    return (number >= 1 && number <= 14) || number == 17;
+}
+
+/* All but 14, whose detail is an item. */
 static bool refusals(void)
 {
-    for (uint32_t number = 1; number <= 13; number++) {
+    for (uint32_t number = 1; number <= 17; number++) {
+        if (number == 14 || !is_refusal(number)) {
+            continue;
+        }
         bool names = number == 7 || (number >= 9 && number <= 11);
         for (size_t task = 0; task < (names ? BURRBEECH_TASKS_MAX : 1); task++) {
             uint64_t answer = refused(number, task);
@@ -112,13 +122,20 @@ static bool traced_ticks(void)
     return true;
 }
 
+/* A list of so many tasks, read from a sheet with this policy and of this version. */
+static bool one_list(size_t tasks, uint32_t policy, uint32_t version)
+{
+    uint64_t answer = success(tasks | (uint64_t)policy << 8 | (uint64_t)version << 16);
+    return burrbeech_refusal(answer) == 0 && burrbeech_read_tasks(answer) == tasks &&
+           burrbeech_read_policy(answer) == policy && burrbeech_read_version(answer) == version;
+}
+
 static bool lists_read(void)
 {
     for (uint32_t policy = 0; policy <= 2; policy++) {
         for (size_t tasks = 1; tasks <= BURRBEECH_TASKS_MAX; tasks++) {
-            uint64_t answer = success(tasks | (uint64_t)policy << 8);
-            if (burrbeech_refusal(answer) != 0 || burrbeech_read_tasks(answer) != tasks ||
-                burrbeech_read_policy(answer) != policy) {
+            if (!one_list(tasks, policy, BURRBEECH_SHEET_VERSION_1) ||
+                !one_list(tasks, policy, BURRBEECH_SHEET_VERSION_2)) {
                 return false;
             }
         }
@@ -186,17 +203,21 @@ static bool refusals_of_a_check(void)
     return true;
 }
 
-/* No two numbers have the same words, and a number that is none has words of its own. */
+/* No two refusals have the same words, nor one of them those of no refusal; all other numbers have the same words. */
 static bool words(void)
 {
-    for (uint32_t number = 0; number <= 15; number++) {
-        for (uint32_t other = 0; other < number; other++) {
+    for (uint32_t number = 1; number <= 99; number++) {
+        bool unknown = strcmp(burrbeech_refusal_words(number), burrbeech_refusal_words(99)) == 0;
+        if (unknown == is_refusal(number)) {
+            return false;
+        }
+        for (uint32_t other = 0; other < number && !unknown; other++) {
             if (strcmp(burrbeech_refusal_words(number), burrbeech_refusal_words(other)) == 0) {
                 return false;
             }
         }
     }
-    return strcmp(burrbeech_refusal_words(15), burrbeech_refusal_words(99)) == 0;
+    return true;
 }
 
 /* The last slot of the last task, with a different digit in each byte. */

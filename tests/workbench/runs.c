@@ -6,6 +6,17 @@
 static const uint8_t worst_of_g[22] = {0x00, 0x00, 0x00, 0x02, 0x10, 0x00, 0x00, 0x00, 0x00, 0x40, 0x00,
                                        0x04, 0x00, 0x00, 0x01, 0x00, 0x00, 0x20, 0x00, 0x00, 0xEF, 0x2A};
 
+/* T 8 D 8 C 2; below it T 6, frames 3 and 1 with the deadlines 6 and 2, in version 2. Frame 1 of task 1 has no response
+ * time within its deadline. */
+static const struct sheet short_frame = {{0x20, 0x40, 0x00, 0x00, 0x80, 0x00, 0x00, 0x10, 0x00, 0x02,
+                                          0x00, 0x00, 0x80, 0x00, 0x06, 0x00, 0x00, 0x02, 0x00, 0x00,
+                                          0x30, 0x00, 0x06, 0x00, 0x00, 0x10, 0x00, 0x02, 0x7C, 0x0F},
+                                         30};
+
+/* Its worst run, of that frame: task 0 at tick 1 with work 2, task 1 at tick 1 with work 1. */
+static const uint8_t worst_of_short_frame[22] = {0x01, 0x00, 0x00, 0x02, 0x00, 0x00, 0x01, 0x00, 0x00, 0x20, 0x00,
+                                                 0x00, 0x10, 0x00, 0x01, 0x00, 0x00, 0x10, 0x00, 0x00, 0x08, 0xA3};
+
 /* No entry, for two tasks. */
 static const uint8_t empty[6] = {0x00, 0x00, 0x00, 0x00, 0x84, 0xC0};
 
@@ -106,6 +117,17 @@ static void try_trace(const struct sheet *f, const struct sheet *g, const struct
            burrbeech_play_done(burrbeech_trace(f->bytes, f->len, empty, sizeof empty, NULL, 0)));
 }
 
+/* A job is due by the deadline of its frame. */
+static void try_deadlines(void)
+{
+    expect("worst run: that of the short frame, byte for byte",
+           burrbeech_worst_run_length(worst_run(&short_frame, sizeof script)) == sizeof worst_of_short_frame &&
+               memcmp(script, worst_of_short_frame, sizeof worst_of_short_frame) == 0);
+    uint64_t answer = play(&short_frame, worst_of_short_frame, sizeof worst_of_short_frame);
+    expect("play: it ends with the miss of task 1 at 1 + 2",
+           burrbeech_play_missed(answer) && burrbeech_play_task(answer) == 1 && burrbeech_play_tick(answer) == 3);
+}
+
 int main(int argc, char **argv)
 {
     if (argc != 2) {
@@ -116,5 +138,6 @@ int main(int argc, char **argv)
     try_play(&f, &g, &i);
     try_worst_run(&f, &g, &i);
     try_trace(&f, &g, &i);
+    try_deadlines();
     return finished();
 }

@@ -83,8 +83,12 @@ static void try_check(const struct sheet *f, const struct sheet *g, const struct
            burrbeech_check_sheet(NULL, 0, NULL, 0) == BURRBEECH_REFUSAL_LENGTH);
     expect("check: frames without a start are refused with 11 alone",
            check(&no_start, sizeof bytes) == BURRBEECH_REFUSAL_NOT_MONOTONIC && untouched(bytes, sizeof bytes));
-    expect("check: 453 bytes are refused with 1",
-           burrbeech_check_sheet(f->bytes, sizeof f->bytes, bytes, sizeof bytes) == BURRBEECH_REFUSAL_LENGTH);
+    /* zeros behind a right check word keep it right */
+    expect("check: 733 bytes are refused with 1, F and zeros up to 732 with 8",
+           burrbeech_check_sheet(f->bytes, sizeof f->bytes, bytes, sizeof bytes) == BURRBEECH_REFUSAL_LENGTH &&
+               burrbeech_check_sheet(f->bytes, sizeof f->bytes - 1, bytes, sizeof bytes) == BURRBEECH_REFUSAL_RECORDS);
+    expect("check: F in version 2 holds with 4 and 7",
+           burrbeech_check_holds(check(&f_in_2, sizeof bytes)) && checked_times(4, 7));
 }
 
 static void try_analyse(const struct sheet *f, const struct sheet *g, const struct sheet *d)
@@ -104,6 +108,21 @@ static void try_analyse(const struct sheet *f, const struct sheet *g, const stru
     expect("analyse: D misses, task 1, no blocker; task 0 has 3",
            burrbeech_analysed_missed(answer) && burrbeech_analysed_missed_task(answer) == 1 &&
                burrbeech_analysed_missed_blocker(answer) == BURRBEECH_NO_BLOCKER && analysed_times(3, 0));
+}
+
+/* A deadline for each frame. */
+static void try_deadlines(void)
+{
+    expect("check: deadlines 20 and 4 hold, with 4; 7 and 4",
+           burrbeech_check_holds(check(&joystick, 64)) && burrbeech_check_time(bytes, 0, 0) == 4 &&
+               burrbeech_check_time(bytes, 1, 0) == 7 && burrbeech_check_time(bytes, 1, 1) == 4 &&
+               burrbeech_check_time(bytes, 1, 2) == 0);
+    expect("analyse: the same",
+           burrbeech_analysed_holds(analyse(&joystick, 16)) && burrbeech_analysed_time(numbers, 0, 0) == 4 &&
+               burrbeech_analysed_time(numbers, 1, 0) == 7 && burrbeech_analysed_time(numbers, 1, 1) == 4);
+    expect("report: the smallest deadline stands in the task's line",
+           reported(report(&joystick, sizeof text), "holds 2\n0 10 10 2 4\n1 20 4 0 7 4\n"));
+    expect("report: F in version 2 as in version 1", reported(report(&f_in_2, sizeof text), report_of_f));
 }
 
 static void try_refused(const struct sheet *f, const struct sheet *i)
@@ -156,6 +175,7 @@ int main(int argc, char **argv)
     bent.bytes[bent.len - 3] ^= 1;
     try_check(&f, &g, &bent);
     try_analyse(&f, &g, &d);
+    try_deadlines();
     try_refused(&f, &i);
     try_report(&f, &g, &i);
     return finished();

@@ -9,12 +9,14 @@ enum { STACK = 8 * BURRBEECH_STACK_MAX, THREADS = 8, ROUNDS = 200 };
 /* What one thread lends, and the last answer it got. */
 struct lent {
     struct sheet sheet;
+    uint32_t version;
     uint32_t policy;
     struct burrbeech_task list[BURRBEECH_TASKS_MAX];
     size_t tasks;
     uint8_t bytes[BURRBEECH_TIMES_BYTES];
     uint32_t times[BURRBEECH_TIMES_MAX];
     uint8_t text[BURRBEECH_REPORT_MAX];
+    uint8_t converted[BURRBEECH_SHEET_MAX];
     uint8_t script[BURRBEECH_WORST_MAX];
     size_t script_len;
     uint8_t ticks[BURRBEECH_PLAYED_MAX];
@@ -33,8 +35,15 @@ static void read_list(struct lent *lent)
 
 static void write_list(struct lent *lent)
 {
-    lent->answer =
-        burrbeech_write_list(lent->policy, lent->list, lent->tasks, lent->sheet.bytes, sizeof lent->sheet.bytes);
+    lent->answer = burrbeech_write_list(lent->version, lent->policy, lent->list, lent->tasks, lent->sheet.bytes,
+                                        sizeof lent->sheet.bytes);
+}
+
+/* To the other version. */
+static void convert(struct lent *lent)
+{
+    lent->answer = burrbeech_convert(3 - lent->version, lent->sheet.bytes, lent->sheet.len, lent->converted,
+                                     sizeof lent->converted);
 }
 
 static void analyse_list(struct lent *lent)
@@ -70,26 +79,28 @@ static void trace(struct lent *lent)
                                    sizeof lent->ticks);
 }
 
-static void (*const entries[])(struct lent *) = {check_sheet, read_list, write_list, analyse_list, analyse_sheet,
-                                                 report,      worst_run, play,       trace};
-static const char *const names[] = {"check_sheet", "read_list", "write_list", "analyse_list", "analyse_sheet",
-                                    "report",      "worst_run", "play",       "trace"};
+static void (*const entries[])(struct lent *) = {check_sheet,   read_list, write_list, convert, analyse_list,
+                                                 analyse_sheet, report,    worst_run,  play,    trace};
+static const char *const names[] = {"check_sheet",   "read_list", "write_list", "convert", "analyse_list",
+                                    "analyse_sheet", "report",    "worst_run",  "play",    "trace"};
 enum { ENTRIES = sizeof entries / sizeof *entries };
 
-/* A set of sixteen tasks of eight equal frames, whose deadlines are their periods, and its sheet. The first task has a
- * period of its own, and frames no longer than that. */
-static struct lent *full_set(uint32_t first_period, uint32_t frame)
+/* A set of sixteen tasks of eight equal frames, whose deadlines are their periods, and its sheet of this version. The
+ * first task has a period of its own, and frames no longer than that. */
+static struct lent *full_set(uint32_t version, uint32_t first_period, uint32_t frame)
 {
     struct lent *lent = calloc(1, sizeof *lent);
     if (lent == NULL) {
         exit(2);
     }
+    lent->version = version;
     lent->tasks = BURRBEECH_TASKS_MAX;
     for (size_t slot = 0; slot < BURRBEECH_TIMES_MAX; slot++) {
         struct burrbeech_task *record = &lent->list[slot / BURRBEECH_FRAMES_MAX];
-        record->period = record->deadline = record == lent->list ? first_period : BURRBEECH_TICKS_MAX;
+        record->period = record == lent->list ? first_period : BURRBEECH_TICKS_MAX;
         record->frame_count = BURRBEECH_FRAMES_MAX;
         record->frames[slot % BURRBEECH_FRAMES_MAX] = frame < record->period ? frame : record->period;
+        record->deadlines[slot % BURRBEECH_FRAMES_MAX] = record->period;
     }
     write_list(lent);
     lent->sheet.len = burrbeech_written_bytes(lent->answer);
@@ -165,7 +176,7 @@ static void try_side_by_side(void)
     pthread_t threads[THREADS];
     struct call calls[THREADS];
     for (size_t i = 0; i < THREADS; i++) {
-        calls[i] = (struct call){all_entries, full_set(1000, (uint32_t)i + 1), NULL};
+        calls[i] = (struct call){all_entries, full_set(1 + (uint32_t)i % 2, 1000, (uint32_t)i + 1), NULL};
         if (pthread_create(&threads[i], NULL, called, &calls[i]) != 0) {
             exit(2);
         }
@@ -173,19 +184,23 @@ static void try_side_by_side(void)
     bool same = true;
     for (size_t i = 0; i < THREADS; i++) {
         same = pthread_join(threads[i], NULL) == 0 && calls[i].lent->answer == 1 && same;
-        struct lent *alone = full_set(1000, (uint32_t)i + 1);
+        struct lent *alone = full_set(1 + (uint32_t)i % 2, 1000, (uint32_t)i + 1);
         report(alone);
         same = same && memcmp(alone->text, calls[i].lent->text, sizeof alone->text) == 0;
+        convert(alone);
+        same = same && burrbeech_refusal(alone->answer) == 0 &&
+               memcmp(alone->converted, calls[i].lent->converted, sizeof alone->converted) == 0;
         free(alone);
         free(calls[i].lent);
     }
     expect("eight threads side by side get what each gets alone", same);
 }
 
-/* A set that costs many rounds and misses, and one that holds with the longest times. */
+/* A set that costs many rounds and misses, and one that holds with the longest times; in both versions. */
 int main(void)
 {
-    struct lent *sets[] = {full_set(1, 1), full_set(BURRBEECH_TICKS_MAX, 65535)};
+    struct lent *sets[] = {full_set(1, 1, 1), full_set(1, BURRBEECH_TICKS_MAX, 65535), full_set(2, 1, 1),
+                           full_set(2, BURRBEECH_TICKS_MAX, 65535)};
     for (size_t entry = 0; entry < ENTRIES; entry++) {
         try_stack(entry, sets, sizeof sets / sizeof *sets);
     }

@@ -4,7 +4,8 @@ use crate::running::{run, shell, shipped_one, Folder, ROOT};
 #[test]
 fn wrong_words_are_usage_errors() {
     let lines = "|frobnicate|check --quiet|check -x a|check -qq|check - -|check a - b -|report a b|report --json a|report -q|explain a b|\
-                 explain -q a|show a b|show -o x|compose a b|compose -o|compose -o a -o b|compose --json|refusals x|refusals -q|help nosuch|\
+                 explain -q a|show a b|show -o x|compose a b|compose -o|compose -o a -o b|compose --json|compose --to|compose --to 0|compose --to 3|compose --to 1 --to 2|\
+                 convert|convert s|convert --to|convert --to x s|convert --to 2 s t|convert --to 2 --to 2 s|convert --to 2 --json s|show --to 2 s|refusals x|refusals -q|help nosuch|\
                  play|play s|play - -|play s r x|play s r --last|play s r --last x|play s r --last 3 --json|play s r -q|worst|worst s r|worst --json s|worst - -|\
                  draw|draw s r x|draw s --json|draw s --from|draw s --to -1|draw s -o|script|script nosuch|script compose s|\
                  script compose s t x|script show s|script show s r -o x|script show s r --last 3|script -h x|script show -h x|help script x|\
@@ -32,7 +33,7 @@ fn help_is_given_in_each_way() {
     for words in [["-h"].as_slice(), &["help"], &["help", "help"]] {
         assert_eq!(run(words).done(0), help.text());
     }
-    for verb in ["check", "report", "explain", "show", "compose", "play", "worst", "draw", "refusals"] {
+    for verb in ["check", "report", "explain", "show", "compose", "convert", "play", "worst", "draw", "refusals"] {
         let text = run(&["help", verb]);
         assert!(text.done(0).starts_with(&format!("usage: burrbeech {verb}")));
         for words in [[verb, "--help"], [verb, "-h"]] {
@@ -72,10 +73,11 @@ fn each_refusal_has_the_words_of_the_header() {
     let header = std::fs::read_to_string(format!("{ROOT}/include/burrbeech.h")).unwrap();
     let ran = run(&["refusals"]);
     let lines: Vec<&str> = ran.done(0).lines().collect();
-    assert_eq!(lines.len(), 14);
-    for (i, line) in lines.iter().enumerate() {
+    let numbers: Vec<u32> = (1..=14).chain([17]).collect();
+    assert_eq!(lines.len(), numbers.len());
+    for (line, expected) in lines.iter().zip(numbers) {
         let (number, words) = line.trim_start().split_once("  ").unwrap();
-        assert_eq!(number, (i + 1).to_string());
+        assert_eq!(number, expected.to_string());
         assert!(header.contains(&format!("return \"{words}\";")), "{line}");
     }
 }

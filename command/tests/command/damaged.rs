@@ -2,7 +2,7 @@
 use crate::json::{self, number_or_null, Value};
 use crate::running::{run, run_with, shipped_script, Folder};
 use crate::shipped::status_of;
-use second::generate::{admitted_set, damaged_sheets, edge_set, muddled_sheet, random_sheet};
+use second::generate::{admitted_set, damaged_sheets, edge_set, muddled_sheet, random_sheet, version_for};
 use second::random::Random;
 use second::refusal::Refusal;
 use second::sheet;
@@ -13,15 +13,17 @@ fn named_task(refusal: Refusal) -> Option<usize> {
     matches!(refusal.number(), 7 | 9 | 10 | 11).then(|| refusal.task())
 }
 
-/// At least 1,000 damaged sheets: of each set an even choice that takes every way of damage in turn.
+/// At least 1,000 damaged sheets of both versions, with every number: of each set an even choice that takes every way of damage in turn.
 fn damaged(random: &mut Random) -> Vec<(Vec<u8>, Refusal)> {
-    let mut all = Vec::new();
+    let mut all: Vec<(Vec<u8>, Refusal)> = Vec::new();
     for round in 0.. {
-        if all.len() >= 1_000 {
+        let numbers: BTreeSet<u32> = all.iter().map(|(_, refusal)| refusal.number()).collect();
+        if all.len() >= 1_000 && numbers.len() == 11 {
             break;
         }
         let set = if round % 4 == 0 { edge_set(random) } else { admitted_set(random) };
-        let sheets = damaged_sheets(random, &set);
+        let version = version_for(random, &set);
+        let sheets = damaged_sheets(random, version, &set);
         let step = sheets.len() / 60 + 1;
         all.extend(sheets.into_iter().skip(round % step).step_by(step).map(|sheet| (sheet.bytes, sheet.refusal)));
     }
@@ -40,6 +42,8 @@ fn each_verb_gives_the_refusal() {
         numbers.insert(refusal.number());
     }
     assert_eq!(numbers, (1..=11).collect());
+    let of_version = |version: u8| damaged.iter().filter(|(bytes, refusal)| refusal.number() > 3 && bytes[0] >> 4 == version).count();
+    assert!([1, 2].map(of_version).iter().all(|&sheets| sheets > 200));
     let objects = json::lines(run(&words).done(2));
     assert_eq!(objects.len(), damaged.len());
     for (i, object) in objects.iter().enumerate() {
@@ -122,14 +126,19 @@ fn a_changed_sheet_is_shown_as_it_stands() {
     let mut random = Random::new(103);
     for _ in 0..50 {
         let set = admitted_set(&mut random);
-        let mut bytes = sheet::write(&set);
+        let version = version_for(&mut random, &set);
+        let mut bytes = sheet::write(version, &set);
         *bytes.last_mut().unwrap() ^= 1;
         let object = json::object(run_with(&["show", "--json"], &bytes).done(2).trim_end());
         assert_eq!(object.get("refusal").number(), 2);
-        assert_eq!(object.get("policy").number(), u64::from(set.policy));
+        assert_eq!((object.get("version").number(), object.get("policy").number()), (version.into(), set.policy.into()));
         for (shown, task) in object.get("list").items().iter().zip(&set.tasks) {
             assert_eq!(shown.get("period").number(), u64::from(task.period));
-            assert_eq!(shown.get("frames").numbers(), task.frames.iter().map(|&c| u64::from(c)).collect::<Vec<_>>());
+            let numbers = |list: &[u32]| list.iter().map(|&n| u64::from(n)).collect::<Vec<_>>();
+            assert_eq!(
+                (shown.get("frames").numbers(), shown.get("deadlines").numbers()),
+                (numbers(&task.frames), numbers(&task.deadlines))
+            );
         }
         assert_eq!(object.get("list").items().len(), set.tasks.len());
     }

@@ -1,8 +1,9 @@
 //! `draw`: a picture for every run, whole, small and free of scripts and links.
 use crate::running::{run, shell, shipped_one, shipped_script, Folder, Ran, ROOT};
 use crate::runs::{busy_set, kept, made, two_misses};
+use second::generate::sheet_of;
 use second::random::Random;
-use second::{scripts, sheet};
+use second::scripts;
 use std::path::Path;
 
 /// The tags are closed in their order, and there is nothing but shapes and texts.
@@ -169,7 +170,7 @@ fn random_runs_give_whole_pictures() {
     for _ in 0..150 {
         let set = busy_set(&mut random);
         let script = kept(&mut random, &set, 25);
-        let (sheet_bytes, bytes) = (sheet::write(&set), scripts::write(&script));
+        let (sheet_bytes, bytes) = (sheet_of(&mut random, &set), scripts::write(&script));
         let play = scripts::play_sheet(&sheet_bytes, &bytes).expect("a script that keeps the rules");
         folder.file("s", &sheet_bytes);
         folder.file("r", &bytes);
@@ -313,7 +314,9 @@ fn long_names_stay_in_the_picture() {
         assert!(picture.contains(&format!("<title>The run of &quot;{script}&quot;: task 0 misses at 5")));
         assert!(picture.contains(&format!("The sheet, &quot;{sheet}&quot;: missed, 2 tasks: task 0 misses, blocker 1</title>")));
         let shown: Vec<&str> = texts(picture);
-        for (start, end) in [("The sheet, &quot;first ", " last.sheet&quot;: missed"), ("The run of &quot;first ", " last.script&quot;: task 0")] {
+        for (start, end) in
+            [("The sheet, &quot;first ", " last.sheet&quot;: missed"), ("The run of &quot;first ", " last.script&quot;: task 0")]
+        {
             let at = shown.iter().position(|text| text.starts_with(start)).expect("a name");
             assert!(shown[at..at + 3].join(" ").contains(end) && shown[at].contains("..."), "{shown:?}");
         }

@@ -1,7 +1,9 @@
 //! The built command, run as people run it, and compared with the second reading of the scope.
 mod arguments;
 mod compose;
+mod convert;
 mod damaged;
+mod deadlines;
 mod draw;
 mod explain;
 mod faults;

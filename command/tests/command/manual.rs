@@ -22,7 +22,7 @@ fn the_verbs_of_the_help_are_those_of_the_manual() {
     let manual = manual();
     let synopsis = manual.split(".SH SYNOPSIS").nth(1).unwrap().split(".SH ").next().unwrap();
     assert_eq!(usages(synopsis), help);
-    assert_eq!(help.len(), 12);
+    assert_eq!(help.len(), 13);
     let verbs = manual.split(".SH VERBS").nth(1).unwrap().split(".SH ").next().unwrap();
     for usage in help {
         let entry = usage.strip_prefix("burrbeech ").unwrap();

@@ -14,8 +14,8 @@ const ADVICE: &str =
 
 /// The sheet of a set with these frames, a task for each list, which is written whatever they are.
 fn sheet(lists: &[&[u32]]) -> Vec<u8> {
-    let task = |frames: &&[u32]| Task { period: 1_048_575, deadline: 1_048_575, lock: 0, frames: frames.to_vec() };
-    Draft::of(&Set { policy: 0, tasks: lists.iter().map(task).collect() }).bytes()
+    let task = |frames: &&[u32]| Task::with_one_deadline(1_048_575, 1_048_575, 0, frames);
+    Draft::of(1, &Set { policy: 0, tasks: lists.iter().map(task).collect() }).bytes()
 }
 
 fn object(verb: &str, sheet: &[u8]) -> Value {
@@ -70,7 +70,8 @@ fn case_i_in_json_word_for_word() {
     assert_eq!(json("explain"), format!("{explained}}}\n"));
     let fields = "\"admitted\":false,\"length\":20,\"check_word\":\"B05E\",\"computed_check_word\":\"B05E\",\"version\":1,\"policy\":0,\
                   \"policy_name\":\"listed\",\"tasks\":1,\"spare\":\"00000\"";
-    let list = "\"list\":[{\"task\":0,\"period\":10,\"deadline\":10,\"lock\":0,\"frames\":[1,2,3],\"frame_count\":3}]";
+    let list =
+        "\"list\":[{\"task\":0,\"period\":10,\"deadline\":10,\"lock\":0,\"frames\":[1,2,3],\"deadlines\":[10,10,10],\"frame_count\":3}]";
     assert_eq!(json("show"), format!("{explained},{fields},{list}}}\n"));
 }
 
@@ -232,6 +233,20 @@ fn advised(frames: &[u32]) -> (usize, u32) {
     let numbers: Vec<u32> = numbers.replace(" from ", " ").replace(" to ", " ").split(' ').map(|n| n.parse().expect("a number")).collect();
     assert_eq!(frames[numbers[0] as usize], numbers[1]);
     (numbers[0] as usize, numbers[2])
+}
+
+/// A frame that would be raised above its own deadline needs a longer one, and no other.
+#[test]
+fn the_advice_minds_the_deadline() {
+    let advice = |deadlines: [u32; 3]| {
+        let task = Task { period: 10, lock: 0, frames: vec![1, 2, 3], deadlines: deadlines.to_vec() };
+        object("explain", &Draft::of(2, &Set { policy: 0, tasks: vec![task] }).bytes()).get("advice").text().to_string()
+    };
+    assert_eq!(advice([2, 9, 3]), ADVICE);
+    let longer = "or raise frame 0 from 1 to 2, its deadline from 1 to 2, and ask again. ";
+    assert_eq!(advice([1, 9, 3]), ADVICE.replace("or raise frame 0 from 1 to 2 and ask again. ", longer));
+    let mended = run_with(&["compose"], b"policy 0\ntask period deadline lock frames\n0 10 - 0 2/2 2/9 3/3\n");
+    assert_eq!(mended.status, 0, "{}", mended.err);
 }
 
 /// What the advice says: a list that never rises is made, and one that is refused is made after some frames were raised, none above the

@@ -2,11 +2,12 @@
 use crate::json::{self, number_or_null, Value};
 use crate::running::{run, run_with, shell, shipped_one, shipped_script, Folder, ROOT};
 use crate::runs::{broken, busy_set, kept, made, seen, two_misses, Seen};
+use second::check_word;
+use second::generate::sheet_of;
 use second::random::Random;
 use second::runs::{Complete, Job};
 use second::scripts::{self, Script};
 use second::task::Set;
-use second::{check_word, sheet};
 use std::path::Path;
 
 const MISSED: &str = "scripts/g-worst.script: task 0 misses at 5, the end of tick 4
@@ -149,7 +150,7 @@ fn also(set: &Set, script: &Script, job: &Job) -> Value {
         ("task", job.task as u64),
         ("released", job.release),
         ("frame", job.frame as u64),
-        ("due", job.release + u64::from(set.tasks[job.task].deadline)),
+        ("due", job.release + u64::from(set.tasks[job.task].deadlines[job.frame])),
         ("work", entry.expect("its entry").work.into()),
         ("left", job.left.into()),
     ];
@@ -182,7 +183,7 @@ fn random_runs() {
         let set = busy_set(&mut random);
         let entries = random.below(40) as usize;
         let script = kept(&mut random, &set, entries);
-        let (sheet_bytes, bytes) = (sheet::write(&set), scripts::write(&script));
+        let (sheet_bytes, bytes) = (sheet_of(&mut random, &set), scripts::write(&script));
         let expected = scripts::play_sheet(&sheet_bytes, &bytes).expect("a script that keeps the rules");
         folder.file("s", &sheet_bytes);
         folder.file("r", &bytes);
@@ -248,10 +249,11 @@ fn refused_items() {
     for _ in 0..25 {
         let set = busy_set(&mut random);
         let script = kept(&mut random, &set, 6);
-        folder.file("s", &sheet::write(&set));
+        let sheet_bytes = sheet_of(&mut random, &set);
+        folder.file("s", &sheet_bytes);
         for broken in broken(&set, &script) {
             let bytes = scripts::write(&broken.script);
-            let expected = scripts::play_sheet(&sheet::write(&set), &bytes).expect_err("a broken rule");
+            let expected = scripts::play_sheet(&sheet_bytes, &bytes).expect_err("a broken rule");
             assert_eq!(expected, second::refusal::Refusal::Item(broken.item));
             folder.file("r", &bytes);
             let ran = shell(&folder.0, "\"$0\" play s r");
@@ -339,7 +341,7 @@ fn swapped_files_are_told() {
     let root = Path::new(ROOT);
     let hint = "sheets/g.sheet reads as a sheet: the sheet is given first, then the script.";
     let swapped = "scripts/g-worst.script sheets/g.sheet";
-    let text = "scripts/g-worst.script: refused 3: version not 1\n";
+    let text = "scripts/g-worst.script: refused 3: version neither 1 nor 2, or not the converter's\n";
     for line in [format!("play {swapped}"), format!("script show {swapped}"), format!("draw {swapped} -o /dev/null")] {
         let ran = shell(root, &format!("\"$0\" {line}"));
         assert!(ran.done(2).starts_with(text) && ran.text().ends_with(&format!(" {hint}\n")), "{}", ran.text());

@@ -97,7 +97,7 @@ pub fn shipped() -> Vec<PathBuf> {
     let entries = std::fs::read_dir(format!("{ROOT}/sheets")).expect("the shipped sheets");
     let mut paths: Vec<PathBuf> = entries.map(|entry| entry.expect("an entry").path()).filter(|path| path.is_file()).collect();
     paths.sort();
-    assert!(paths.len() >= 14, "{paths:?}");
+    assert!(paths.len() >= 16, "{paths:?}");
     paths
 }
 

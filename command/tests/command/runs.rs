@@ -1,12 +1,12 @@
 //! Scripts for tests: random runs, and every way to break one item.
 use crate::running::{shell, Folder};
-use second::generate::{admitted_set, edge_set, set_of, Shape};
+use second::generate::{admitted_set, edge_set, one_in, set_of, Shape};
 use second::random::Random;
 use second::runs::{Job, Player};
 use second::scripts::{Entry, Script};
 use second::task::Set;
 
-/// A set of small numbers, so that releases meet, wait and miss.
+/// A set of small numbers, so that releases meet, wait and miss; in half of them each frame has a deadline of its own.
 pub fn busy_set(random: &mut Random) -> Set {
     match random.below(8) {
         0 => admitted_set(random),
@@ -14,8 +14,18 @@ pub fn busy_set(random: &mut Random) -> Set {
         _ => {
             let tasks = 1 + random.below(5) as usize;
             let load = 600 + random.below(900) as u32;
-            let shape =
-                Shape { tasks, least_frames: 1, most_frames: 3, least_period: 4, greatest_period: 40, most_lock: 6, most_early: 8, load };
+            let (apart, most_early) = if one_in(random, 2) { (true, 600) } else { (false, 8) };
+            let shape = Shape {
+                tasks,
+                least_frames: 1,
+                most_frames: 3,
+                least_period: 4,
+                greatest_period: 40,
+                most_lock: 6,
+                most_early,
+                apart,
+                load,
+            };
             set_of(random, shape)
         }
     }

@@ -2,14 +2,20 @@
 use crate::json;
 use crate::running::{run, run_with, shell, shipped_one, shipped_script, Folder, ROOT};
 use crate::runs::{broken, busy_set, kept, text};
+use second::generate::sheet_of;
 use second::random::Random;
 use second::scripts::{self, Script};
 use second::{check_word, sheet};
 use std::path::Path;
 
 /// Each shipped script with the sheet that it is for.
-const SHIPPED: [(&str, &str); 3] =
-    [("g-worst", "sheets/g.sheet"), ("f-exactly-4", "sheets/f.sheet"), ("two-locks", "scripts/two-locks.sheet")];
+const SHIPPED: [(&str, &str); 5] = [
+    ("g-worst", "sheets/g.sheet"),
+    ("f-exactly-4", "sheets/f.sheet"),
+    ("two-locks", "scripts/two-locks.sheet"),
+    ("n-worst", "sheets/n.sheet"),
+    ("o-both-frames", "sheets/o.sheet"),
+];
 
 /// No shipped script or sheet is made by hand: each is composed from the text beside it.
 #[test]
@@ -23,7 +29,10 @@ fn the_shipped_scripts_are_composed() {
         assert!(shown.done(0).starts_with("# burrbeech run script for 2 tasks."));
     }
     assert_eq!(shell(root, "\"$0\" compose scripts/two-locks.table").out, std::fs::read(root.join("scripts/two-locks.sheet")).unwrap());
-    assert_eq!(shell(root, "\"$0\" worst sheets/g.sheet 2>/dev/null").out, std::fs::read(shipped_script("g-worst")).unwrap());
+    for case in ["g", "n"] {
+        let worst = shell(root, &format!("\"$0\" worst sheets/{case}.sheet 2>/dev/null")).out;
+        assert_eq!(worst, std::fs::read(shipped_script(&format!("{case}-worst"))).unwrap(), "{case}");
+    }
     let mut names: Vec<String> = SHIPPED.iter().flat_map(|(name, _)| [format!("{name}.script"), format!("{name}.text")]).collect();
     names.extend(["two-locks.sheet".to_string(), "two-locks.table".to_string()]);
     names.sort();
@@ -119,7 +128,10 @@ fn a_script_of_another_length_is_not_composed() {
         (counting(0), 8, "bytes that a refused script has behind"),
     ] {
         folder.file("r", &bytes);
-        let run = format!("\"$0\" script show '{0}' r | sed -e 1d -e 's/ *# <==.*//' > t && \"$0\" script compose '{0}' t -o out", shipped_one("g"));
+        let run = format!(
+            "\"$0\" script show '{0}' r | sed -e 1d -e 's/ *# <==.*//' > t && \"$0\" script compose '{0}' t -o out",
+            shipped_one("g")
+        );
         let said = shell(&folder.0, &run).failed(3).to_string();
         assert!(said.contains(&format!("t:{line}: this is what `script show` says of {words}")), "{said}");
         assert!(!folder.0.join("out").exists());
@@ -135,7 +147,7 @@ fn hundreds_of_scripts_there_and_back() {
         let entries = random.below(30) as usize;
         let script = kept(&mut random, &set, entries);
         let bytes = scripts::write(&script);
-        folder.file("s", &sheet::write(&set));
+        folder.file("s", &sheet_of(&mut random, &set));
         folder.file("r", &bytes);
         let ran = shell(&folder.0, "\"$0\" script show s r > t && \"$0\" script compose s t");
         assert_eq!((ran.status, &ran.out, ran.err.as_str()), (0, &bytes, ""));
@@ -174,7 +186,7 @@ fn refused_texts_are_named_by_line() {
     for _ in 0..12 {
         let set = busy_set(&mut random);
         let script = kept(&mut random, &set, 5);
-        folder.file("s", &sheet::write(&set));
+        folder.file("s", &sheet_of(&mut random, &set));
         for broken in broken(&set, &script) {
             let (text, line_of) = text(&broken.script);
             folder.file("t", text.as_bytes());

@@ -28,13 +28,15 @@ sheets/k.sheet: holds, 2 tasks
 sheets/l1.sheet: holds, 2 tasks
 sheets/l2.sheet: holds, 2 tasks
 sheets/m.sheet: holds, 1 task
-14 sheets: 11 hold, 2 missed, 1 refused
+sheets/n.sheet: missed, 2 tasks: task 1 misses, no blocker
+sheets/o.sheet: holds, 2 tasks
+16 sheets: 12 hold, 3 missed, 1 refused
 ";
 
 #[test]
 fn all_are_checked_with_totals() {
     let root = Path::new(ROOT);
-    let all = "sheets/[a-k].sheet sheets/l1.sheet sheets/l2.sheet sheets/m.sheet";
+    let all = "sheets/[a-k].sheet sheets/l1.sheet sheets/l2.sheet sheets/[m-o].sheet";
     assert_eq!(shell(root, &format!("\"$0\" check {all}")).done(2), CHECKED);
     let quiet: String =
         CHECKED.lines().filter(|line| line.contains("missed, ") || line.contains(": refused ")).map(|l| format!("{l}\n")).collect();
@@ -84,8 +86,8 @@ Policy 0, listed: task 0 has the highest priority, then task 1 and so on.
 The tasks, highest priority first:
 
 task 0: period 10, deadline 4, lock 0
-  does not pass: the demand of its largest frame, frame 0 with work 2, is above t for every t from 1 to the deadline 4
-  demand of frame 0 at t = 4, the deadline:
+  does not pass: the demand of its first frame without a response time, frame 0 with work 2, is above t for every t from 1 to its deadline 4
+  demand of frame 0 at t = 4, its deadline:
     3  blocking: task 1, which is lower, has lock 4; less 1
     2  own frame 0
     5  in all, 1 tick above the deadline 4
@@ -188,14 +190,24 @@ fn json_of_every_verb() {
 #[test]
 fn json_word_for_word() {
     let json = |verb: &str, case: &str| run_with(&[verb, "--json"], &std::fs::read(shipped_one(case)).unwrap()).text().to_string();
-    assert_eq!(json("check", "f"), "{\"file\":\"-\",\"verdict\":\"holds\",\"tasks\":2}\n");
-    assert_eq!(json("check", "g"), "{\"file\":\"-\",\"verdict\":\"missed\",\"tasks\":2,\"task\":0,\"blocker\":1}\n");
-    assert_eq!(json("check", "d"), "{\"file\":\"-\",\"verdict\":\"missed\",\"tasks\":2,\"task\":1,\"blocker\":null}\n");
+    assert_eq!(json("check", "f"), "{\"file\":\"-\",\"verdict\":\"holds\",\"tasks\":2,\"version\":1}\n");
+    assert_eq!(json("check", "o"), "{\"file\":\"-\",\"verdict\":\"holds\",\"tasks\":2,\"version\":2}\n");
+    assert_eq!(json("check", "g"), "{\"file\":\"-\",\"verdict\":\"missed\",\"tasks\":2,\"task\":0,\"blocker\":1,\"version\":1}\n");
+    assert_eq!(json("check", "n"), "{\"file\":\"-\",\"verdict\":\"missed\",\"tasks\":2,\"task\":1,\"blocker\":null,\"version\":2}\n");
     let refused = json::object(json("check", "i").trim_end());
     assert_eq!(refused.keys(), ["file", "verdict", "refusal", "task", "reason", "words"]);
     assert_eq!((refused.get("refusal"), refused.get("task")), (&Value::Number(11), &Value::Number(0)));
     let missed = json::object(json("explain", "g").trim_end());
-    assert_eq!(missed.keys(), ["file", "verdict", "tasks", "task", "blocker", "policy", "policy_name", "order", "list", "demand"]);
+    assert_eq!(
+        missed.keys(),
+        ["file", "verdict", "tasks", "task", "blocker", "version", "policy", "policy_name", "order", "list", "demand"]
+    );
     let shown = json::object(json("show", "f").trim_end());
-    assert_eq!(shown.keys(), ["file", "admitted", "tasks", "policy", "policy_name", "list"]);
+    assert_eq!(shown.keys(), ["file", "admitted", "tasks", "version", "policy", "policy_name", "list"]);
+    assert_eq!(
+        json("show", "o"),
+        "{\"file\":\"-\",\"admitted\":true,\"tasks\":2,\"version\":2,\"policy\":2,\"policy_name\":\"deadline-monotonic\",\"list\":[{\"task\":0,\
+         \"period\":20,\"deadline\":5,\"lock\":0,\"frames\":[4,2],\"deadlines\":[10,5]},{\"task\":1,\"period\":12,\"deadline\":7,\"lock\":3,\
+         \"frames\":[3],\"deadlines\":[7]}]}\n"
+    );
 }

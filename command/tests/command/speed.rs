@@ -1,8 +1,7 @@
 //! A folder of sheets is checked at once.
 use crate::running::{run, Folder};
-use second::generate::{set_of, Shape};
+use second::generate::{set_of, sheet_of, Shape};
 use second::random::Random;
-use second::sheet;
 use std::time::{Duration, Instant};
 
 #[test]
@@ -19,9 +18,11 @@ fn a_thousand_sheets_in_well_under_a_second() {
             greatest_period: 5_000,
             most_lock: 20,
             most_early: 200,
+            apart: random.below(2) == 0,
             load: 300 + random.below(700) as u32,
         };
-        let bytes = sheet::write(&set_of(&mut random, shape));
+        let set = set_of(&mut random, shape);
+        let bytes = sheet_of(&mut random, &set);
         words.push(folder.file(format!("{i}.sheet"), &bytes).display().to_string());
     }
     let started = Instant::now();

@@ -8,7 +8,7 @@ use std::path::Path;
 use std::process::{Command, Stdio};
 use std::time::Duration;
 
-const READERS: [&str; 5] = ["check", "report", "explain", "show", "compose"];
+const READERS: [&str; 6] = ["check", "report", "explain", "show", "compose", "convert --to 2"];
 
 fn in_root(line: &str) -> crate::running::Ran {
     shell(Path::new(ROOT), line)
@@ -99,17 +99,18 @@ fn no_more_is_read_than_decides() {
     assert_eq!(in_root("\"$0\" report < /dev/zero").done(2), "refused 1\n");
     let folder = Folder::new("huge");
     folder.file("huge", &[0; 1_000]);
-    assert_eq!(shell(&folder.0, "{ \"$0\" report; wc -c; } < huge").text().replace(' ', ""), "refused1\n547\n");
+    assert_eq!(shell(&folder.0, "{ \"$0\" report; wc -c; } < huge").text().replace(' ', ""), "refused1\n267\n");
     assert_eq!(run_with(&["report"], &vec![0x10; 1 << 20]).done(2), "refused 1\n");
     assert_eq!(in_root("\"$0\" report README.md").done(2), "refused 1\n");
 }
 
-const WRITERS: [&str; 13] = [
+const WRITERS: [&str; 14] = [
     "check sheets/f.sheet",
     "report sheets/f.sheet",
     "explain sheets/f.sheet",
     "show sheets/f.sheet",
     "compose t",
+    "convert --to 2 sheets/f.sheet",
     "play sheets/g.sheet scripts/g-worst.script",
     "script compose sheets/g.sheet scripts/g-worst.text",
     "script show sheets/g.sheet scripts/g-worst.script",

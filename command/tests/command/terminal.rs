@@ -46,7 +46,7 @@ fn run_on_terminal(words: &[&str]) -> (Option<i32>, String) {
 fn text_goes_to_a_terminal_and_a_sheet_does_not() {
     let folder = Folder::new("terminal");
     let table = folder.file("t", b"policy 0\ntask period deadline lock frames\n0 10 4 0 2\n").display().to_string();
-    for words in [["compose", &table].as_slice(), &["compose", &table, "-o", "-"]] {
+    for words in [["compose", &table].as_slice(), &["compose", &table, "-o", "-"], &["convert", "--to", "2", &shipped_one("f")]] {
         let (status, message) = run_on_terminal(words);
         assert_eq!(status, Some(3));
         assert!(message.contains("a sheet is no text: give `-o FILE`"), "{message}");
@@ -76,6 +76,7 @@ fn a_terminal_by_another_name() {
     let (sheet, text) = (shipped_one("g"), format!("{ROOT}/scripts/g-worst.text"));
     for (words, message) in [
         (["compose", &table].as_slice(), "a sheet is no text"),
+        (&["convert", "--to", "2", &sheet], "a sheet is no text"),
         (&["worst", &sheet], "a script is no text"),
         (&["script", "compose", &sheet, &text], "a script is no text"),
         (&["draw", &sheet], "a picture is nothing to read"),

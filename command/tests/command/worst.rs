@@ -2,8 +2,9 @@
 use crate::json;
 use crate::running::{run, shell, shipped_one, shipped_script, Folder, ROOT};
 use crate::runs::busy_set;
+use second::generate::sheet_of;
 use second::random::Random;
-use second::{scripts, sheet};
+use second::scripts;
 use std::path::Path;
 
 #[test]
@@ -30,7 +31,7 @@ Written to {}: 2 entries, 22 bytes.
     }
     let ran = shell(Path::new(ROOT), &line("g.json").replace("worst ", "worst --json "));
     let object = json::object(ran.done(1).trim_end());
-    let keys = ["file", "verdict", "tasks", "task", "blocker", "frame", "released", "tick", "entries", "bytes", "script"];
+    let keys = ["file", "verdict", "tasks", "task", "blocker", "version", "frame", "released", "tick", "entries", "bytes", "script"];
     assert_eq!(object.keys(), keys);
     assert_eq!((object.get("tick").number(), object.get("entries").number(), object.get("bytes").number()), (5, 2, 22));
 }
@@ -89,7 +90,7 @@ fn random_sets() {
     let (mut missed, mut holds) = (0, 0);
     for _ in 0..400 {
         let set = busy_set(&mut random);
-        folder.file("s", &sheet::write(&set));
+        folder.file("s", &sheet_of(&mut random, &set));
         let _ = std::fs::remove_file(folder.0.join("r"));
         let ran = shell(&folder.0, "\"$0\" worst s -o r");
         match scripts::worst(&set) {
@@ -105,7 +106,7 @@ fn random_sets() {
                 let (task, frame) = said.strip_prefix("The worst run of task ").unwrap().split_once(", frame ").unwrap();
                 let (task, frame): (usize, usize) = (task.parse().unwrap(), frame.split(',').next().unwrap().parse().unwrap());
                 assert_eq!(scripts::first_frame_without(&set, task), Some(frame));
-                let end = format!("r: task {task} misses at {}, ", 1 + set.tasks[task].deadline);
+                let end = format!("r: task {task} misses at {}, ", 1 + set.tasks[task].deadlines[frame]);
                 assert!(shell(&folder.0, "\"$0\" play s r").done(1).starts_with(&end));
                 missed += 1;
             }

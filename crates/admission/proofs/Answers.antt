@@ -70,11 +70,11 @@ module _ (i : ℕ) (t : Task) where
           let (none-starts, same) = found-nowhere (reason-of t) _ why e in
           rw same (by-checks (Refused (NotMonotonic i (reason-of t))) (to-the-third ∙ applies _ _ _ (ap not (none-found none-starts))))
 
-      pub with-start : (s : ℕ) → start-of t ≡ At s → Shaped (record { start = s; largest = most }) ≡ task-answer i t
+      pub with-start : (s : ℕ) → start-of t ≡ At s → Shaped (record { start = s }) ≡ task-answer i t
       unfolding start-of monotonic start-frame shape-of
       with-start s e =
           let start = found-at (reason-of t) _ s e in
-          rw (most-is, ← ap (λ (o : Option ℕ). Option·getD o 0) start)
+          rw (← ap (λ (o : Option ℕ). Option·getD o 0) start)
           (by-checks Admitted (to-the-third ∙ passed-over _ _ _ (ap not (some-found start)) ∙ no-check))
 
 -- a task's answer, from what it told

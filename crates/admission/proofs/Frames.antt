@@ -1,16 +1,16 @@
--- The largest of a list of frame times, and whether they lie between two numbers, frame by frame.
-use mathlib.Core.Bool.{true, false, _&&_}
+-- The largest of a list of frame times, and whether each lies between 1 and its deadline and that within the period, frame by frame.
+use mathlib.Core.Bool.{Bool, true, false}
 use mathlib.Core.List.{List, _∷_}
 use mathlib.Core.Path.{_≡_, refl, sym, ap, _∙_}
-use Prim.Native.Nat.{ℕ, _+_, _≤_, _<_, max}
-use native.Mathlib.Nat.{zero-max, max-zero}
+use Prim.Native.Nat.{ℕ, _+_, _-_, _≤_, _<_, max}
+use native.Mathlib.Nat.{zero-max, max-zero, sub-zero}
 use native.Mathlib.Omega.{arith}
 use borrow.Author.Tests.{le-leb, lt-leb}
-use lib.Dec.{leb}
 use lib.ListN.{length, getD, take}
+use Rattle.theory.specs.First.{every}
 use Rattle.theory.specs.Tasks.{largest}
-use Rattle.sheet.specs.Admission.{all}
-use Rattle.admission.specs.Inside.Frames.{all-between}
+use Rattle.admission.specs.Inside.Frames.{between, all-between}
+use Rattle.admission.proofs.Rows.{every-passes, every-fails, every-ends}
 use Rattle.admission.proofs.Remaining.{remaining, all-remain, one-remains, none-remain}
 
 largest-cons : (c : ℕ) (cs : List ℕ) → largest (c ∷ cs) ≡ max c (largest cs)
@@ -39,30 +39,39 @@ module _ (frames : List ℕ) (count : ℕ) where
     unfolding LargestSoFar largest
     largest-end h = sym (max-zero most) ∙ ap (λ l. max most (largest l)) (sym (none-remain frames count there k h)) ∙ was
 
-between-cons : (least greatest c : ℕ) (cs : List ℕ)
-    → all-between least greatest (c ∷ cs) ≡ (leb least c && leb c greatest && all-between least greatest cs)
-unfolding all-between all
-between-cons least greatest c cs = refl
+-- the frames from k on that are left to look at
+unfoldable pub between-left : (period count : ℕ) → List ℕ → List ℕ → ℕ → Bool
+between-left period count frames deadlines k = every k (count - k) (λ j. between period (getD frames j 0) (getD deadlines j 0))
 
-module _ (frames : List ℕ) (count least greatest : ℕ) where
-  pub between-start : all-between least greatest (remaining frames count 0) ≡ all-between least greatest (take count frames)
-  between-start = rw (all-remain frames count)
+module _ (period count : ℕ) (frames deadlines : List ℕ) where
+  abbrev test : ℕ → Bool
+  test j = between period (getD frames j 0) (getD deadlines j 0)
 
-  module _ (there : count ≤ length frames) (k c : ℕ) (h : k < count) (e : c ≡ getD frames k 0) where
-    turn : all-between least greatest (remaining frames count k)
-        ≡ (leb least c && leb c greatest && all-between least greatest (remaining frames count (k + 1)))
-    turn = rw (one-remains frames count there k 0 h, ← e) (between-cons least greatest c _)
+  pub between-start : between-left period count frames deadlines 0 ≡ all-between period count frames deadlines
+  unfolding between-left all-between
+  between-start = ap (λ (n : ℕ). every 0 n test) (sub-zero count)
 
-    pub between-passes : least ≤ c → c ≤ greatest
-        → all-between least greatest (remaining frames count (k + 1)) ≡ all-between least greatest (remaining frames count k)
-    between-passes l g = sym (turn ∙ rw (le-leb least c l, le-leb c greatest g))
+  module _ (k c d : ℕ) (h : k < count) (ec : c ≡ getD frames k 0) (ed : d ≡ getD deadlines k 0) where
+    here : (b : Bool) → between period c d ≡ b → test k ≡ b
+    here b e = rw (← ec, ← ed) e
 
-    pub between-below : c < least → all-between least greatest (remaining frames count k) ≡ false
-    between-below l = turn ∙ rw (lt-leb least c l)
+    pub between-passes : 1 ≤ c → c ≤ d → d ≤ period → between-left period count frames deadlines (k + 1) ≡ between-left period count frames deadlines k
+    unfolding between-left
+    between-passes l m n = sym (every-passes test k count h (here true (rw (le-leb 1 c l, le-leb c d m, le-leb d period n))))
 
-    pub between-above : least ≤ c → greatest < c → all-between least greatest (remaining frames count k) ≡ false
-    between-above l g = turn ∙ rw (le-leb least c l, lt-leb c greatest g)
+    fails-here : between period c d ≡ false → between-left period count frames deadlines k ≡ false
+    unfolding between-left
+    fails-here e = every-fails test k count h (here false e)
 
-  pub between-end : count ≤ length frames → (k : ℕ) → count ≤ k → all-between least greatest (remaining frames count k) ≡ true
-  unfolding all-between all
-  between-end there k h = rw (none-remain frames count there k h)
+    pub between-none : c < 1 → between-left period count frames deadlines k ≡ false
+    between-none l = fails-here (rw (lt-leb 1 c l))
+
+    pub between-over : 1 ≤ c → d < c → between-left period count frames deadlines k ≡ false
+    between-over l m = fails-here (rw (le-leb 1 c l, lt-leb c d m))
+
+    pub between-late : 1 ≤ c → c ≤ d → period < d → between-left period count frames deadlines k ≡ false
+    between-late l m n = fails-here (rw (le-leb 1 c l, le-leb c d m, lt-leb d period n))
+
+  pub between-end : (k : ℕ) → count ≤ k → between-left period count frames deadlines k ≡ true
+  unfolding between-left
+  between-end k h = every-ends test k count h

@@ -6,7 +6,7 @@ use native.Mathlib.Omega.{arith}
 use lib.ListN.{length, getD, take, set, replicate, length-map, List·getD-map, List·getD-append}
 use lib.Seq.{getD-take, length-take-le}
 use Rattle.theory.specs.First.{first}
-use Rattle.theory.specs.Tasks.{Task, task-at, start-frame, frame-count, largest}
+use Rattle.theory.specs.Tasks.{Task, task-at, start-frame, frame-count}
 use Rattle.sheet.specs.Constants.{most-tasks}
 use Rattle.sheet.specs.Tasks.{task-in}
 use Rattle.sheet.specs.declared.Task.{Task as Record}
@@ -43,11 +43,11 @@ module _ (records : List Record) (count : ℕ) where
 
 -- the shape at a task's number is the task's
 pub shape-there : (tasks : List Task) (i : ℕ) → i < length tasks → getD (shapes-of tasks) i no-shape ≡ shape-of (task-at tasks i)
-unfolding shapes-of task-at shape-of start-frame frame-count first largest
+unfolding shapes-of task-at shape-of start-frame frame-count first
 shape-there tasks i h =
     List·getD-append (map shape-of tasks) _ no-shape i (rw (length-map tasks shape-of) h)
     ∙ ap (λ (x : Shape). getD (map shape-of tasks) i x) none
-    ∙ List·getD-map shape-of tasks i (record { period = 0; deadline = 0; lock = 0; frames = [] })
+    ∙ List·getD-map shape-of tasks i (record { period = 0; lock = 0; frames = []; deadlines = [] })
   where
-    none : no-shape ≡ shape-of (record { period = 0; deadline = 0; lock = 0; frames = [] })
+    none : no-shape ≡ shape-of (record { period = 0; lock = 0; frames = []; deadlines = [] })
     none = refl

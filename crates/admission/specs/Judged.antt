@@ -2,7 +2,7 @@
 use mathlib.Core.List.{List, [], _++_, map}
 use Prim.Native.Nat.{_-_}
 use lib.ListN.{length, replicate}
-use Rattle.theory.specs.Tasks.{Task, largest, start-frame}
+use Rattle.theory.specs.Tasks.{Task, start-frame}
 use Rattle.sheet.specs.Constants.{most-tasks}
 use Rattle.sheet.specs.Tasks.{task-in, records-of, blank-set}
 use Rattle.sheet.specs.declared.Answer.{Answer}
@@ -12,13 +12,13 @@ use Rattle.sheet.specs.declared.TaskSet.{TaskSet}
 use Rattle.admission.specs.declared.Shape.{Shape}
 use Rattle.admission.specs.declared.Judged.{Judged}
 
--- the start frame and the largest frame time of a task
+-- the start frame of a task
 unfoldable pub shape-of : Task → Shape
-shape-of t = record { start = start-frame t; largest = largest (t .frames) }
+shape-of t = record { start = start-frame t }
 
 -- where there is no task
 abbrev pub no-shape : Shape
-no-shape = record { start = 0; largest = 0 }
+no-shape = record { start = 0 }
 
 -- the shapes of tasks, in room for sixteen
 unfoldable pub shapes-of : List Task → List Shape

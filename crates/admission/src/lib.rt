@@ -27,10 +27,9 @@ pub enum Start {
     Nowhere(Reason),
 }
 
-// The shape of a task's frames: the start frame, and the largest frame time.
+// What admission finds of a task's frames and hands on: the start frame.
 pub struct Shape {
     pub start: u32,
-    pub largest: u32,
 }
 
 impl Shape {
@@ -38,10 +37,7 @@ impl Shape {
     pub fn blank() -> Shape
         ensures { λ r. ⌜ r ≡ no-shape ⌝ }
     {
-        Shape {
-            start: 0,
-            largest: 0,
-        }
+        Shape { start: 0 }
     }
 }
 
@@ -194,49 +190,50 @@ pub fn start_frame(task: Task) -> Start
     Start::Nowhere(reason(&frames, count))
 }
 
-// Whether every frame time lies in least to greatest.
+// Whether every frame takes a tick or more and at most its deadline, and no deadline exceeds the period.
 fn frames_between(
     frames: &[u32; Sheet::FRAME_ROOM],
+    deadlines: &[u32; Sheet::FRAME_ROOM],
     count: usize,
-    least: u32,
-    greatest: u32,
+    period: u32,
 ) -> bool
-    requires { ⌜ (length (now frames) ≡ most-frames) × (count ≤ most-frames) ⌝ }
-    ensures { λ r. ⌜ r ≡ all-between least greatest (take count (now (frames .entry))) ⌝ }
+    requires { ⌜ (length (now frames) ≡ most-frames) × (length (now deadlines) ≡ most-frames) × (count ≤ most-frames) ⌝ }
+    ensures { λ r. ⌜ r ≡ all-between period count (now (frames .entry)) (now (deadlines .entry)) ⌝ }
 {
     for k in 0..count {
         let c = frames[k];
-        if c < least {
+        let d = deadlines[k];
+        if c < 1 {
             return false;
         }
-        if greatest < c {
+        if d < c {
+            return false;
+        }
+        if period < d {
             return false;
         }
     }
     true
 }
 
-// Whether a task is in range and well formed. A frame time that is at most a deadline in range is in range above.
+// Whether a task is in range and well formed. A frame time that is at most its deadline, and that at most a period in range, are in range above.
 fn well_formed(task: Task) -> bool
     ensures { λ r. ⌜ r ≡ (in-range (task-in task) && well-formed (task-in task)) ⌝ }
 {
     let period = task.period;
-    let deadline = task.deadline;
+    if period < 1 {
+        return false;
+    }
     if Sheet::GREATEST_TIME < period {
-        return false;
-    }
-    if period < deadline {
-        return false;
-    }
-    if deadline < 1 {
         return false;
     }
     if Sheet::GREATEST_TIME < task.lock {
         return false;
     }
     let frames = task.frames;
-    let count = sheet::in_use(task.frame_count as usize, Sheet::FRAME_ROOM);
-    frames_between(&frames, count, 1, deadline)
+    let deadlines = task.deadlines;
+    let count = sheet::frame_count(task);
+    frames_between(&frames, &deadlines, count, period)
 }
 
 // The largest frame time of a task.
@@ -271,7 +268,7 @@ fn task_answer(task: Task, number: u32) -> TaskAnswer
         return TaskAnswer::TurnedAway(Refusal::Lock(number));
     }
     match start_frame(task) {
-        Start::At(start) => TaskAnswer::Shaped(Shape { start, largest }),
+        Start::At(start) => TaskAnswer::Shaped(Shape { start }),
         Start::Nowhere(why) => TaskAnswer::TurnedAway(Refusal::NotMonotonic(number, why)),
     }
 }

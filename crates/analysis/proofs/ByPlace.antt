@@ -1,79 +1,133 @@
 -- What is found from the tasks above and the blocking is the finding of the task's place.
-use mathlib.Core.Bool.{true, false}
-use mathlib.Core.List.{List, [], _∷_, _++_, map}
+use mathlib.Core.Bool.{Bool, true, false, _&&_, true≢false, and-eq-true-iff}
+use mathlib.Core.List.{List, _∷_}
+use mathlib.Core.Logic.{_⊎_, inl, inr}
 use mathlib.Core.Option.{Option, none, some, Option·getD}
-use mathlib.Core.Path.{_≡_, refl, sym, ap, ap₂, _∙_}
-use Prim.Native.Nat.{ℕ, zero, suc, _+_, _-_, _≤_, _<_, min}
-use native.Mathlib.Nat.{mod-eq-of-lt, zero-add, add-zero, add-suc, suc-add}
+use mathlib.Core.Path.{_≡_, refl, sym, ap, ap₂, fun-ext, _∙_}
+use Prim.Native.Nat.{ℕ, zero, suc, _+_, _-_, _≤_, _<_, zero-le}
+use native.Mathlib.Decide.{ℕ-discrete}
+use native.Mathlib.Nat.{zero-add, add-zero, add-suc, suc-add}
 use native.Mathlib.Omega.{arith}
-use lib.ListN.{length, getD, take, drop, set, replicate, length-take, drop-of-length-le, length-map, List·getD-map, List·getD-append}
-use lib.Seq.{drop-cons, getD-take}
-use Rattle.theory.specs.First.{found}
-use Rattle.theory.specs.Tasks.{Task, task-at, frame-count, frame, largest, largest-frame, deadline-of, shortest-deadline, WellFormed}
-use Rattle.theory.specs.Analysis.{Higher, lower, blocking, higher, demand, response, demand-of, response-of, passes}
-use Rattle.theory.proofs.Laws.{largest-is, frame-le-largest}
+use borrow.Author.Tests.{le-leb, leb-true, eq-eqb, ne-eqb, eqb-true}
+use lib.Dec.{leb, eqb}
+use lib.ListN.{length, getD, set, replicate, List·getD-append}
+use Rattle.theory.specs.First.{every, found}
+use Rattle.theory.specs.Tasks.{Task, task-at, frame-count, frame, deadline-of, WellFormed}
+use Rattle.theory.specs.Analysis.{Higher, lower, blocking, higher, demand-of, response-of, passes}
+use Rattle.theory.proofs.Search.{bool-cases, every-at, every-is}
 use Rattle.sheet.specs.Constants.{most-frames}
 use Rattle.sheet.specs.Tasks.{task-in}
-use Rattle.sheet.proofs.Records.{frames-used, frames-counted}
+use Rattle.sheet.proofs.Records.{frame-is}
+use Rattle.sheet.proofs.Filled.{filled, none-filled, filled-more, all-filled}
 use Rattle.sheet.specs.declared.Task.{Task as Record}
-use Rattle.analysis.specs.Inside.Response.{answer, response-to}
-use Rattle.analysis.specs.declared.response.Response.the-variants.{At, Never}
 use Rattle.analysis.specs.Times.{number-at, times-from, slots-by, slots-of}
 use Rattle.analysis.specs.Findings.{finding-at, findings-from, findings-of}
-use Rattle.analysis.specs.Inside.Steps.{as-written, is-there, times-to, finding-with, passes-to, finding-to}
+use Rattle.analysis.specs.Inside.Response.{answer, response-to, frame-response, as-written, is-there}
+use Rattle.analysis.specs.Inside.Steps.{as-before, times-to, finding-with, passes-to, finding-to}
 use Rattle.analysis.specs.declared.Finding.{Finding}
-use Rattle.sheet.proofs.Filled.{filled, filled-more, all-filled}
+use Rattle.analysis.specs.declared.response.Response.{Response}
 
-pub frame-in : (t : Task) (k : ℕ) → k < frame-count t → frame t k ≡ getD (t .frames) k 0
-unfolding frame
-frame-in t k h = rw (mod-eq-of-lt h)
+-- a row in which one fails
+pub every-fails : (n : ℕ) (test : ℕ → Bool) (k : ℕ) → k < n → test k ≡ false → every 0 n test ≡ false
+every-fails n test k h e = go (bool-cases (every 0 n test))
+  where
+    go : (every 0 n test ≡ true) ⊎ (every 0 n test ≡ false) → every 0 n test ≡ false
+    go (inl y) = absurd (true≢false (sym (every-at 0 n test y k zero-le (omega arith)) ∙ e))
+    go (inr f) = f
 
--- the time of a frame of the task at a place, by the frame's length
-module _ (set : List Task) (p : ℕ) where
-  abbrev pub time : ℕ → Option ℕ
-  time c = response (demand (blocking (lower set p)) c (higher set p)) (shortest-deadline (task-at set p))
+-- the frames of a well-formed task take a tick or more
+pub frame-counts : (r : Record) (k : ℕ) → WellFormed (task-in r) → k < frame-count (task-in r) → 1 ≤ getD (r .frames) k 0
+frame-counts r k w h = rw (frame-is r k h) (w .frame-positive k h)
 
-  pub response-by : (k : ℕ) → response-of set p k ≡ time (frame (task-at set p) k)
-  unfolding response-of demand-of deadline-of shortest-deadline
-  response-by k = refl
+-- ---- a frame with the time and the deadline of the one before it
 
-  times-by : (k n : ℕ) → k + n ≡ frame-count (task-at set p) → times-from set p k n ≡ map (λ c. Option·getD (time c) 0) (drop k (task-at set p .frames))
-  unfolding times-from frame-count
-  times-by k zero e = rw (drop-of-length-le (task-at set p .frames) {i = k} (omega arith))
-  times-by k (suc n) e =
-      rw (drop-cons (task-at set p .frames) k 0 (omega arith))
-      (ap₂ _∷_ (ap (λ (r : Option ℕ). Option·getD r 0) (response-by k ∙ ap time (frame-in (task-at set p) k (omega arith)))) (times-by (suc k) n (omega arith)))
+module _ (t : Task) where
+  pub first-alone : (k : ℕ) → k ≡ 0 → false ≡ as-before t k
+  unfolding as-before
+  first-alone k z = rw z
 
-  pub passes-by : 1 ≤ frame-count (task-at set p) → passes set p ≡ found (time (largest (task-at set p .frames)))
-  unfolding passes
-  passes-by h = ap found (response-by (largest-frame (task-at set p)) ∙ ap time (largest-is (task-at set p) h .largest-time))
+  module _ (k : ℕ) (later : 1 ≤ k) where
+    pub other-time : ¬ (frame t k ≡ frame t (k - 1)) → false ≡ as-before t k
+    unfolding as-before
+    other-time n = rw (le-leb _ _ later, ne-eqb _ _ n)
 
-  finding-by : (order : List ℕ) → 1 ≤ frame-count (task-at set p)
-      → let pass = found (time (largest (task-at set p .frames))) in
-      finding-at order set p
-      ≡ finding-with (number-at order p) (blocking (lower set p)) (task-at set p) pass (slots-by pass (map (λ c. Option·getD (time c) 0) (task-at set p .frames)))
-  unfolding finding-at finding-with slots-of frame-count
-  finding-by order h = rw (passes-by h, times-by 0 (frame-count (task-at set p)) (omega arith))
+    pub same-time : frame t k ≡ frame t (k - 1) → eqb (deadline-of t k) (deadline-of t (k - 1)) ≡ as-before t k
+    unfolding as-before
+    same-time e = rw (le-leb _ _ later, eq-eqb _ _ e)
 
--- every frame of a well-formed task takes a tick or more, and so does the largest
-pub frame-counts : (r : Record) (n k : ℕ) → (n ≡ min (r .«frame_count») most-frames) × (length (r .frames) ≡ most-frames) → WellFormed (task-in r) → k < n
-    → 1 ≤ getD (r .frames) k 0
-frame-counts r n k used w h =
-    let there : k < frame-count (task-in r) = omega (arith, frames-counted r n used) in
-    rw (
-      ← getD-take n (r .frames) k 0 h,
-      frames-used r n used,
-      ← frame-in (task-in r) k there,
-    )
-    (w .frame-positive k there)
+  -- has the same response
+  pub response-before : (above : List Higher) (blocked k : ℕ) → as-before t k ≡ true
+      → (1 ≤ k) × (frame-response above blocked t (k - 1) ≡ frame-response above blocked t k)
+  unfolding as-before frame-response
+  response-before above blocked k e =
+      let same-frame = eqb (frame t k) (frame t (k - 1)) in
+      let same-deadline = eqb (deadline-of t k) (deadline-of t (k - 1)) in
+      let (both, deadline) = and-eq-true-iff (leb 1 k && same-frame) same-deadline .0 e in
+      let (later, time) = and-eq-true-iff (leb 1 k) same-frame .0 both in
+      (leb-true 1 k later, ap₂ (response-to above blocked) (sym (eqb-true _ _ time)) (sym (eqb-true _ _ deadline)))
 
-pub largest-counts : (t : Task) → WellFormed t → 1 ≤ largest (t .frames)
-largest-counts t w = omega (arith, w .frame-positive 0 (w .has-frame), frame-le-largest t 0)
+-- ---- frame by frame
 
--- every frame has the task's one deadline
-pub one-deadline : (t : Task) (k : ℕ) → deadline-of t k ≡ shortest-deadline t
-unfolding deadline-of shortest-deadline
-one-deadline t k = refl
+module _ (above : List Higher) (blocked : ℕ) (t : Task) where
+  length-times-to : (k n : ℕ) → length (times-to above blocked t k n) ≡ n
+  unfolding times-to
+  length-times-to k zero = refl
+  length-times-to k (suc n) = ap suc (length-times-to (suc k) n)
+
+  time-to : (k n j : ℕ) → j < n → getD (times-to above blocked t k n) j 0 ≡ as-written (frame-response above blocked t (k + j))
+  unfolding times-to
+  time-to k zero j h = let z : ⊥ = omega arith in absurd z
+  time-to k (suc n) zero h = rw (add-zero k)
+  time-to k (suc n) (suc j) h = time-to (suc k) n j (omega arith) ∙ ap (λ (m : ℕ). as-written (frame-response above blocked t m)) (suc-add k j ∙ sym (add-suc k j))
+
+  -- the frames before frame k are looked at: each has a response time, their times stand, and the last is that of the frame before
+  pub record Looked (times : List ℕ) (last : Response) (k : ℕ) : Type 0 where
+    pub stand : times ≡ filled most-frames 0 (times-to above blocked t 0 (frame-count t)) k
+    pub have : (j : ℕ) → j < k → is-there (frame-response above blocked t j) ≡ true
+    pub before : 1 ≤ k → last ≡ frame-response above blocked t (k - 1)
+
+  pub none-looked : (last : Response) → Looked (replicate most-frames 0) last 0
+  none-looked last =
+      record {
+        stand = none-filled most-frames 0 _;
+        have = λ j l. let z : ⊥ = omega arith in absurd z;
+        before = λ l. let z : ⊥ = omega arith in absurd z;
+      }
+
+  pub one-looked : {times : List ℕ} {last : Response} {k : ℕ} → Looked times last k → k < frame-count t → frame-count t ≤ most-frames
+      → (next : Response) (time : ℕ) → next ≡ frame-response above blocked t k → time ≡ as-written next → is-there next ≡ true → Looked (set times k time) next (k + 1)
+  one-looked {times} {last} {k} l h few next time e et there =
+      record {
+        stand =
+            rw (l .stand)
+            (filled-more most-frames 0 (times-to above blocked t 0 (frame-count t)) k 0 time (rw (length-times-to 0 (frame-count t)) h) (omega arith)
+            (et ∙ ap as-written e ∙ ap (λ (m : ℕ). as-written (frame-response above blocked t m)) (sym (zero-add k)) ∙ sym (time-to 0 (frame-count t) k h)));
+        have = λ j m. at j m (ℕ-discrete j k);
+        before = λ _. let same : k + 1 - 1 ≡ k = omega arith in rw same e;
+      }
+    where
+      at : (j : ℕ) → j < k + 1 → Dec (j ≡ k) → is-there (frame-response above blocked t j) ≡ true
+      at j m (yes s) = rw (s, ← e) there
+      at j m (no n) = l .have j (omega arith)
+
+  -- every frame has a response time
+  pub finding-there : {times : List ℕ} {last : Response} {k : ℕ} (number : ℕ) → Looked times last k → frame-count t ≡ k
+      → finding-with number blocked t true times ≡ finding-to above number blocked t
+  unfolding finding-to passes-to slots-by
+  finding-there {times} {last} {k} number l e =
+      rw (
+        every-is 0 (frame-count t) (λ j. is-there (frame-response above blocked t j)) (λ j _ m. l .have j (omega arith)),
+        l .stand,
+        all-filled most-frames 0 (times-to above blocked t 0 (frame-count t)) k (length-times-to 0 (frame-count t) ∙ e),
+      )
+
+  -- or one has none
+  pub finding-never : (number k : ℕ) → k < frame-count t → is-there (frame-response above blocked t k) ≡ false
+      → finding-with number blocked t false (replicate most-frames 0) ≡ finding-to above number blocked t
+  unfolding finding-to passes-to slots-by
+  finding-never number k h e = rw (every-fails (frame-count t) (λ j. is-there (frame-response above blocked t j)) k h e)
+
+-- ---- the tasks above and the blocking are those of a place
 
 written-answer : (o : Option ℕ) → as-written (answer o) ≡ Option·getD o 0
 written-answer none = refl
@@ -84,81 +138,27 @@ unfolding found
 there-answer none = refl
 there-answer (some t) = refl
 
-map-same : (f g : ℕ → ℕ) → ((c : ℕ) → f c ≡ g c) → (l : List ℕ) → map f l ≡ map g l
-map-same f g h [] = refl
-map-same f g h (c ∷ l) = ap₂ _∷_ (h c) (map-same f g h l)
+module _ (set : List Task) (p : ℕ) (above : List Higher) (blocked : ℕ) (t : Task)
+    (ea : above ≡ higher set p) (eb : blocked ≡ blocking (lower set p)) (et : t ≡ task-at set p) where
+  response-at : (k : ℕ) → frame-response above blocked t k ≡ answer (response-of set p k)
+  unfolding frame-response response-to response-of demand-of
+  response-at k = rw (ea, eb, et)
 
--- the times of frames below given tasks
-pub times-in : List Higher → ℕ → ℕ → List ℕ → List ℕ
-times-in above blocked deadline frames = map (λ c. as-written (response-to above blocked c deadline)) frames
+  pub there-at : (k : ℕ) → is-there (frame-response above blocked t k) ≡ found (response-of set p k)
+  there-at k = ap is-there (response-at k) ∙ there-answer (response-of set p k)
 
-pub length-times-in : (above : List Higher) (blocked deadline : ℕ) (frames : List ℕ) → length (times-in above blocked deadline frames) ≡ length frames
-unfolding times-in
-length-times-in above blocked deadline frames = length-map frames (λ c. as-written (response-to above blocked c deadline))
+  passes-at : passes-to above blocked t ≡ passes set p
+  unfolding passes-to passes
+  passes-at = ap₂ (every 0) (ap frame-count et) (fun-ext there-at)
 
-pub time-in : (above : List Higher) (blocked deadline : ℕ) (frames : List ℕ) (n k : ℕ) → k < n → n ≤ length frames
-    → getD (times-in above blocked deadline (take n frames)) k (as-written (response-to above blocked 0 deadline)) ≡ as-written (response-to above blocked (getD frames k 0) deadline)
-unfolding times-in
-time-in above blocked deadline frames n k h l =
-    List·getD-map (λ c. as-written (response-to above blocked c deadline)) (take n frames) k 0
-    ∙ ap (λ (c : ℕ). as-written (response-to above blocked c deadline)) (getD-take n frames k 0 h)
+  times-at : (k n : ℕ) → times-to above blocked t k n ≡ times-from set p k n
+  unfolding times-to times-from
+  times-at k zero = refl
+  times-at k (suc n) = ap₂ _∷_ (ap as-written (response-at k) ∙ written-answer (response-of set p k)) (times-at (suc k) n)
 
-pub times-to-in : (above : List Higher) (blocked : ℕ) (r : Record) (n : ℕ) → (n ≡ min (r .«frame_count») most-frames) × (length (r .frames) ≡ most-frames)
-    → times-to above blocked r ≡ times-in above blocked (shortest-deadline (task-in r)) (take n (r .frames))
-unfolding times-to times-in
-times-to-in above blocked r n used = rw (frames-used r n used)
-
--- a turn of the loop over the frames, and its end
-module _ (above : List Higher) (blocked deadline n : ℕ) (frames : List ℕ) (small : n ≤ most-frames) (room : length frames ≡ most-frames) where
-  abbrev pub up-to : ℕ → List ℕ
-  up-to = filled most-frames 0 (times-in above blocked deadline (take n frames))
-
-  count : length (times-in above blocked deadline (take n frames)) ≡ n
-  count = length-times-in above blocked deadline (take n frames) ∙ rw length-take (omega arith)
-
-  pub up-to-more : (times : List ℕ) (k t : ℕ) → k < n → times ≡ up-to k → t ≡ as-written (response-to above blocked (getD frames k 0) deadline)
-      → set times k t ≡ up-to (k + 1)
-  up-to-more times k t h e et =
-      rw e (filled-more most-frames 0 (times-in above blocked deadline (take n frames)) k (as-written (response-to above blocked 0 deadline)) t
-      (rw count h) (omega arith) (et ∙ sym (time-in above blocked deadline frames n k h (omega arith))))
-
-  pub up-to-all : (k : ℕ) → n ≡ k → up-to k ≡ times-in above blocked deadline (take n frames) ++ replicate (most-frames - length (times-in above blocked deadline (take n frames))) 0
-  up-to-all k e = all-filled most-frames 0 (times-in above blocked deadline (take n frames)) k (count ∙ e)
-
-pub slots-to : (above : List Higher) (blocked : ℕ) (r : Record) (n : ℕ) → (n ≡ min (r .«frame_count») most-frames) × (length (r .frames) ≡ most-frames)
-    → let times = times-in above blocked (shortest-deadline (task-in r)) (take n (r .frames)) in
-    times ++ replicate (most-frames - length times) 0 ≡ slots-by true (times-to above blocked r)
-unfolding slots-by
-slots-to above blocked r n used = rw (times-to-in above blocked r n used)
-
--- a finding by the response to the largest frame
-module _ (above : List Higher) (number blocked : ℕ) (r : Record) where
-  pub finding-there : (t : ℕ) → response-to above blocked (largest (task-in r .frames)) (shortest-deadline (task-in r)) ≡ At t
-      → finding-to above number blocked r ≡ finding-with number blocked (task-in r) true (slots-by true (times-to above blocked r))
-  unfolding finding-to passes-to
-  finding-there t e = rw e
-
-  pub finding-never : response-to above blocked (largest (task-in r .frames)) (shortest-deadline (task-in r)) ≡ Never
-      → finding-to above number blocked r ≡ finding-with number blocked (task-in r) false (replicate most-frames 0)
-  unfolding finding-to passes-to slots-by
-  finding-never e = rw e
-
--- the tasks above, the number, the blocking and the task are those of a place
-pub finding-is-at : (order : List ℕ) (set : List Task) (p : ℕ) (above : List Higher) (number blocked : ℕ) (r : Record)
-    → 1 ≤ frame-count (task-at set p)
-    → above ≡ higher set p → number ≡ number-at order p → blocked ≡ blocking (lower set p) → task-in r ≡ task-at set p
-    → finding-to above number blocked r ≡ finding-at order set p
-unfolding finding-to passes-to times-to response-to
-finding-is-at order set p above number blocked r h ea en eb et =
-    rw (
-      ea,
-      en,
-      eb,
-      et,
-      there-answer (time set p (largest (task-at set p .frames))),
-      map-same (λ c. as-written (answer (time set p c))) (λ c. Option·getD (time set p c) 0) (λ c. written-answer (time set p c)) (task-at set p .frames),
-    )
-    (sym (finding-by set p order h))
+  pub finding-is-at : (order : List ℕ) (number : ℕ) → number ≡ number-at order p → finding-to above number blocked t ≡ finding-at order set p
+  unfolding finding-to finding-with finding-at slots-of
+  finding-is-at order number en = rw (passes-at, times-at 0 (frame-count t), en, eb, et)
 
 -- ---- the findings of a set
 

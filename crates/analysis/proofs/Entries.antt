@@ -24,7 +24,7 @@ use Rattle.sheet.specs.declared.Refusal.{Refusal}
 use Rattle.sheet.specs.declared.Refusal.the-variants.{Room}
 use Rattle.sheet.proofs.Checks.{none-applies, one-applies}
 use Rattle.sheet.proofs.Records.{tasks-with}
-use Rattle.sheet.proofs.Carried.{by-admission, by-reading, reading-answer, admitted-reading}
+use Rattle.sheet.proofs.Carried.{by-admission, by-reading, reading-answer, admitted-reading, many-found}
 use Rattle.sheet.proofs.Analysable.{admitted-set-is-admitted}
 use Rattle.sheet.proofs.RoundTrip.{admitted-reading-admits}
 use Rattle.reader.specs.Sheets.{sheet-judged}
@@ -71,7 +71,7 @@ module _ (policy : ℕ) (tasks : List Task) (counted : Each FramesCounted tasks)
       go : Dec (p < length tasks) → frame-count (task-at (ordered-set policy tasks) p) ≤ most-frames
       go (yes h) = rw (ordered-at policy tasks p h) (few tasks counted (getD (priority-order policy tasks) p 0))
       go (no n) =
-          rw (List·getD-eq-default (ordered-set policy tasks) (record { period = 0; deadline = 0; lock = 0; frames = [] }) {n = p} (omega (arith, ordered-length policy tasks))) zero-le
+          rw (List·getD-eq-default (ordered-set policy tasks) (record { period = 0; lock = 0; frames = []; deadlines = [] }) {n = p} (omega (arith, ordered-length policy tasks))) zero-le
 
   pub times-long : length (times-of policy tasks) ≡ most-frames * length tasks
   unfolding times-of
@@ -240,7 +240,7 @@ module _ (j : Judged) (s : List ℕ) (e : j ≡ sheet-judged s) where
 
   pub of-sheet : analysis-by (j .answer) (j .set .policy) (map task-in (records-of (j .set))) ≡ sheet-analysis s
   unfolding sheet-judged sheet-analysis set-with
-  of-sheet = of-judged j _ _ e ∙ ap (analysis-by (decided (sheet-checks s)) (policy-of s)) (tasks-with (policy-of s) (tasks-of s))
+  of-sheet = of-judged j _ _ e ∙ ap (analysis-by (decided (sheet-checks s)) (policy-of s)) (tasks-with (policy-of s) (tasks-of s) (many-found s))
 
 -- ---- lent numbers
 

@@ -138,13 +138,13 @@ none-found o f e = rw e (none-filled most-tasks no-finding (all o))
 
 module _ (o : Ordered) (shapes : List Shape) (above : List (List ℕ)) (p : ℕ) (h : Here o shapes above p) where
   pub found-more : (findings : List Finding) (number blocked : ℕ) (f : Finding) → Found o findings p → number ≡ getD (o .numbers) p 0 → blocked ≡ blocking-at o p
-      → f ≡ finding-to (h .tallies .tasks) number blocked (record-at o p) → Found o (lib.ListN.set findings p f) (p + 1)
+      → f ≡ finding-to (h .tallies .tasks) number blocked (task-in (record-at o p)) → Found o (lib.ListN.set findings p f) (p + 1)
   unfolding Found blocking-at
   found-more findings number blocked f g en eb ef =
       let numbered : number ≡ number-at (numbers-of o) p = en ∙ sym (number-is o p (omega (arith, tasks-within o, h .in-set))) in
       ap (λ (l : List Finding). lib.ListN.set l p f) g
       ∙ filled-more most-tasks no-finding (all o) p no-finding f (rw (all-length o) (h .in-set)) (h .in-room)
-      (ef ∙ finding-is-at (numbers-of o) (tasks-in-order o) p (h .tallies .tasks) number blocked (record-at o p) (rw (← h .task-is) (h .formed .has-frame)) (h .tallies-are) numbered eb (h .task-is)
+      (ef ∙ finding-is-at (tasks-in-order o) p _ blocked _ (h .tallies-are) eb (h .task-is) (numbers-of o) number numbered
       ∙ sym (finding-first (numbers-of o) (tasks-in-order o) (length (tasks-in-order o)) p no-finding (h .in-set)))
 
 pub all-found : (o : Ordered) (findings : List Finding) (p : ℕ) → length (tasks-in-order o) ≡ p → Found o findings p → findings ≡ findings-of (numbers-of o) (tasks-in-order o)

@@ -12,7 +12,7 @@ use Rattle.theory.specs.Tasks.{Task, task-at, frame-count, deadline-of, Admitte
 use Rattle.theory.specs.Analysis.{Verdict, holds, missed, verdict, blocker, passes, IsResponse, demand-of, response-of}
 use Rattle.theory.specs.Runs.{Run}
 use Rattle.theory.specs.WorstRun.{worst-run}
-use Rattle.theory.proofs.Theorems.{holds-no-miss, passing-no-longer, passing-has-times, passing-reached, failing-largest-misses, named-task-misses}
+use Rattle.theory.proofs.Theorems.{holds-no-miss, passing-no-longer, passing-has-times, passing-reached, failing-first-misses, named-task-misses}
 use Rattle.theory.proofs.Laws.{IsMissed, verdict-holds, verdict-missed, response-of-is, blocker-is}
 use Rattle.sheet.specs.declared.Refusal.{Refusal}
 use Rattle.order.specs.Order.{priority-order, ordered-set}
@@ -116,8 +116,8 @@ module _ (policy : ℕ) (tasks : List Task) where
         → (run : Run) × (r k : ℕ) × RunOf policy tasks run × TaskMisses policy tasks run i r k
     unfolding RunOf TaskMisses
     failing-then-some-miss i h fails =
-        let (legal, misses) = failing-largest-misses set in-order (place policy tasks i) (place-below i h) fails in
-        (worst-run set (place policy tasks i) _, 1, _, legal, misses)
+        let (k, first, legal, misses) = failing-first-misses set in-order (place policy tasks i) (place-below i h) fails in
+        (worst-run set (place policy tasks i) k, 1, k, legal, misses)
 
     -- The blocker that a miss names is a task of the set.
     pub blocker-in : (p q : ℕ) → blocker set p ≡ some q → number-at order q < length tasks
@@ -132,7 +132,7 @@ module _ (policy : ℕ) (tasks : List Task) where
         where
           go : Dec (p < length tasks) → frame-count (task-at set p) ≤ 8
           go (yes h) = rw (ordered-at policy tasks p h) (eight (getD order p 0))
-          go (no n) = rw (List·getD-eq-default set (record { period = 0; deadline = 0; lock = 0; frames = [] }) {n = p} (omega (arith, count))) zero-le
+          go (no n) = rw (List·getD-eq-default set (record { period = 0; lock = 0; frames = []; deadlines = [] }) {n = p} (omega (arith, count))) zero-le
 
       -- the number in slot k of the eight of task i
       abbrev pub time : ℕ → ℕ → ℕ

@@ -1,6 +1,6 @@
 -- What the shape of a task says.
-use mathlib.Core.Path.{_≡_, sym, ap}
-use Rattle.theory.specs.Tasks.{Task, largest, start-frame}
+use mathlib.Core.Path.{_≡_, ap}
+use Rattle.theory.specs.Tasks.{Task, start-frame}
 use Rattle.admission.specs.Judged.{shape-of}
 use Rattle.admission.specs.declared.Shape.{Shape}
 
@@ -8,8 +8,3 @@ use Rattle.admission.specs.declared.Shape.{Shape}
 pub shape-start : (s : Shape) (t : Task) → s ≡ shape-of t → s .start ≡ start-frame t
 unfolding shape-of
 shape-start s t e = ap (λ (x : Shape). x .start) e
-
--- the largest frame is the task's
-pub largest-is : (s : Shape) (t : Task) → s ≡ shape-of t → largest (t .frames) ≡ s .largest
-unfolding shape-of
-largest-is s t e = sym (ap (λ (x : Shape). x .largest) e)

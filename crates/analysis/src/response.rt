@@ -3,7 +3,7 @@ ghost use mathlib.Core.Path.{_≡_};
 ghost use Prim.Native.Nat.{_≤_};
 ghost use Rattle.sheet.specs.Constants.{most-tasks};
 ghost use Rattle.analysis.specs.Inside.Demand.{Tallies};
-ghost use Rattle.analysis.specs.Inside.Response.{response-to};
+ghost use Rattle.analysis.specs.Inside.Response.{response-to, as-written, is-there};
 use crate::demand::Above;
 use crate::demand::demand;
 
@@ -11,6 +11,26 @@ use crate::demand::demand;
 pub enum Response {
     At(u32),
     Never,
+}
+
+// Whether it is there.
+pub fn is_there(r: Response) -> bool
+    ensures { λ t. ⌜ t ≡ is-there r ⌝ }
+{
+    match r {
+        Response::At(_) => true,
+        Response::Never => false,
+    }
+}
+
+// As it is written: 0 where there is none.
+pub fn as_written(r: Response) -> u32
+    ensures { λ t. ⌜ t ≡ as-written r ⌝ }
+{
+    match r {
+        Response::At(t) => t,
+        Response::Never => 0,
+    }
 }
 
 // The published iteration: from blocking plus the frame, a round replaces the time by the demand at it, until it is enough or over the deadline.

@@ -1,11 +1,11 @@
--- SCOPE.md, "Worked sets": cases A to M as one table, sets in, answers out; and the three refusals that "What is turned away" gives by example.
+-- SCOPE.md, "Worked sets": cases A to O as one table, sets in, answers out; and the three refusals that "What is turned away" gives by example.
 use mathlib.Core.List.{List, [], _∷_, _++_, map}
 use mathlib.Core.Path.{_≡_}
 use Prim.Native.Nat.{ℕ, _-_}
 use lib.ListN.{length, replicate}
 use Rattle.check_word.specs.Division.{body}
 use Rattle.theory.specs.Tasks.{Task, task-at, start-frame}
-use Rattle.sheet.specs.Constants.{most-frames}
+use Rattle.sheet.specs.Constants.{version-1, version-2, most-frames}
 use Rattle.sheet.specs.Tasks.{set-with}
 use Rattle.sheet.specs.Writing.{sheet-of}
 use Rattle.sheet.specs.declared.Reason.{Reason}
@@ -33,24 +33,33 @@ pub data Expected : Type 0 where
   text : List ℕ → Expected
 
 pub record Case : Type 0 where
+  pub version : ℕ
   pub policy : ℕ
   pub tasks : List Task
   pub expects : List Expected
 
+-- a deadline for each frame
+abbrev by-frame : (T Q : ℕ) → (frames deadlines : List ℕ) → Task
+by-frame T Q frames deadlines = record { period = T; lock = Q; frames = frames; deadlines = deadlines }
+
 -- D = T and Q = 0
 abbrev plain : ℕ → List ℕ → Task
-plain T frames = record { period = T; deadline = T; lock = 0; frames = frames }
+plain T frames = by-frame T 0 frames (map (λ c. T) frames)
 
 -- Q = 0
 abbrev with-deadline : ℕ → ℕ → List ℕ → Task
-with-deadline T D frames = record { period = T; deadline = D; lock = 0; frames = frames }
+with-deadline T D frames = by-frame T 0 frames (map (λ c. D) frames)
 
 -- D = T
 abbrev with-lock : ℕ → ℕ → List ℕ → Task
-with-lock T Q frames = record { period = T; deadline = T; lock = Q; frames = frames }
+with-lock T Q frames = by-frame T Q frames (map (λ c. T) frames)
 
+-- a case whose sheet is of version 1, and one of version 2
 abbrev case : ℕ → List Task → List Expected → Case
-case policy tasks expects = record { policy = policy; tasks = tasks; expects = expects }
+case policy tasks expects = record { version = version-1; policy = policy; tasks = tasks; expects = expects }
+
+abbrev case-2 : ℕ → List Task → List Expected → Case
+case-2 policy tasks expects = record { version = version-2; policy = policy; tasks = tasks; expects = expects }
 
 -- eight slots for each task's times
 unfoldable pub in-eights : List (List ℕ) → List ℕ
@@ -74,8 +83,8 @@ unfoldable pub given : Case → Expected → Expected
 given c (analysed outcome slots) = given-by (set-analysis (set-with (c .policy) (c .tasks)))
 given c (start frame) = start (start-frame (task-at (c .tasks) 0))
 given c (order numbers) = order (priority-order (c .policy) (c .tasks))
-given c (bytes front) = bytes (body (sheet-of (c .policy) (c .tasks)))
-given c (text letters) = text (report (sheet-of (c .policy) (c .tasks)))
+given c (bytes front) = bytes (body (sheet-of (c .version) (c .policy) (c .tasks)))
+given c (text letters) = text (report (sheet-of (c .version) (c .policy) (c .tasks)))
 
 -- the definitions give every case its answers
 unfoldable pub Agrees : List Case → Type 0
@@ -90,6 +99,17 @@ report-of-f =
     0x68 ∷ 0x6F ∷ 0x6C ∷ 0x64 ∷ 0x73 ∷ 0x20 ∷ 0x32 ∷ 0x0A
     ∷ 0x30 ∷ 0x20 ∷ 0x31 ∷ 0x30 ∷ 0x20 ∷ 0x34 ∷ 0x20 ∷ 0x32 ∷ 0x20 ∷ 0x34 ∷ 0x0A
     ∷ 0x31 ∷ 0x20 ∷ 0x32 ∷ 0x30 ∷ 0x20 ∷ 0x32 ∷ 0x30 ∷ 0x20 ∷ 0x30 ∷ 0x20 ∷ 0x37 ∷ 0x0A
+    ∷ []
+
+-- case O's, with the smallest deadline of task 0:
+-- holds 2
+-- 0 20 5 2 6 4
+-- 1 12 7 0 7
+abbrev pub report-of-o : List ℕ
+report-of-o =
+    0x68 ∷ 0x6F ∷ 0x6C ∷ 0x64 ∷ 0x73 ∷ 0x20 ∷ 0x32 ∷ 0x0A
+    ∷ 0x30 ∷ 0x20 ∷ 0x32 ∷ 0x30 ∷ 0x20 ∷ 0x35 ∷ 0x20 ∷ 0x32 ∷ 0x20 ∷ 0x36 ∷ 0x20 ∷ 0x34 ∷ 0x0A
+    ∷ 0x31 ∷ 0x20 ∷ 0x31 ∷ 0x32 ∷ 0x20 ∷ 0x37 ∷ 0x20 ∷ 0x30 ∷ 0x20 ∷ 0x37 ∷ 0x0A
     ∷ []
 
 unfoldable pub table : List Case
@@ -122,6 +142,14 @@ table =
     -- M
     ∷ case 0 (plain 10 (3 ∷ []) ∷ [])
     (bytes (0x10 ∷ 0x20 ∷ 0x00 ∷ 0x00 ∷ 0xA0 ∷ 0x00 ∷ 0x0A ∷ 0x00 ∷ 0x00 ∷ 0x01 ∷ 0x00 ∷ 0x00 ∷ 0x30 ∷ []) ∷ [])
+    -- N, version 2: of two frames of equal time the one with the shorter deadline has no response time
+    ∷ case-2 0 (plain 5 (2 ∷ []) ∷ by-frame 10 0 (3 ∷ 3 ∷ []) (6 ∷ 4 ∷ []) ∷ [])
+    (times (Missed 1 Nobody) ((2 ∷ []) ∷ [] ∷ []) ∷ bytes (0x20 ∷ 0x40 ∷ 0x00 ∷ 0x00 ∷ 0x50 ∷ 0x00 ∷ 0x00 ∷ 0x10 ∷ 0x00 ∷ 0x02 ∷ 0x00 ∷ 0x00 ∷ 0x50 ∷ 0x00 ∷ 0x0A ∷ 0x00 ∷ 0x00 ∷ 0x02 ∷ 0x00 ∷ 0x00 ∷ 0x30 ∷ 0x00 ∷ 0x06 ∷ 0x00 ∷ 0x00 ∷ 0x30 ∷ 0x00 ∷ 0x04 ∷ []) ∷ [])
+    -- O, version 2: the long frame of task 0 may be late by more than its short one, by whose deadline the task is ordered
+    ∷ case-2 2 (by-frame 20 0 (4 ∷ 2 ∷ []) (10 ∷ 5 ∷ []) ∷ by-frame 12 3 (3 ∷ []) (7 ∷ []) ∷ [])
+    (order (0 ∷ 1 ∷ []) ∷ times Holds ((6 ∷ 4 ∷ []) ∷ (7 ∷ []) ∷ []) ∷ text report-of-o ∷ [])
+    -- with the smallest deadline for every frame O would miss
+    ∷ case 2 (with-deadline 20 5 (4 ∷ 2 ∷ []) ∷ by-frame 12 3 (3 ∷ []) (7 ∷ []) ∷ []) (times (Missed 0 (At 1)) ([] ∷ (7 ∷ []) ∷ []) ∷ [])
     -- no task; a deadline one above the period; a lock one above the largest frame
     ∷ case 0 [] (times (Refused TaskCount) [] ∷ [])
     ∷ case 0 (with-deadline 10 11 (3 ∷ []) ∷ []) (times (Refused (IllFormed 0)) [] ∷ [])

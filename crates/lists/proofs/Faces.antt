@@ -10,19 +10,19 @@ use native.Mathlib.Omega.{arith}
 use borrow.Author.Tests.{lt-ltb, ne-eqb}
 use lib.ListN.{length, take, drop, replicate, length-map, length-append, length-replicate}
 use lib.Seq.{take-all, take-at}
-use Rattle.lent.specs.Checks.{first-refusal}
+use Rattle.lent.specs.Checks.{Check, first-refusal}
 use Rattle.lent.specs.Lent.{Call, laid, answered, left-after}
-use Rattle.lent.proofs.Checks.{applies, passed-over}
+use Rattle.lent.proofs.Checks.{applies, passed-over, some-first}
 use Rattle.lent.proofs.Lent.{by-checks, by-room, done, TurnedAway, Done}
-use Rattle.sheet.specs.Constants.{most-tasks}
+use Rattle.sheet.specs.Constants.{version-1, version-2, most-tasks}
 use Rattle.sheet.specs.Tasks.{task-in, record-of, records-of, blank-record, set-with, blank-set}
 use Rattle.sheet.specs.Admission.{miscounted, known-policy, decided, list-checks, policy-check, task-count-check}
-use Rattle.sheet.specs.Reading.{sheet-checks, policy-of, tasks-of, refused-reading, reading-of, reading}
-use Rattle.sheet.specs.Writing.{sheet-of, sheet-bytes, writing, written, left}
+use Rattle.sheet.specs.Reading.{version-among, sheet-checks, version-of, policy-of, tasks-of, refused-reading, reading-of, reading-among, reading}
+use Rattle.sheet.specs.Writing.{sheet-of, sheet-bytes, version-check, writing-checks, writing, written, left}
 use Rattle.sheet.specs.declared.Answer.{Answer}
 use Rattle.sheet.specs.declared.Answer.the-variants.{Admitted, Refused}
 use Rattle.sheet.specs.declared.Refusal.{Refusal}
-use Rattle.sheet.specs.declared.Refusal.the-variants.{Policy, TaskCount, Room}
+use Rattle.sheet.specs.declared.Refusal.the-variants.{Version, Policy, TaskCount, Room}
 use Rattle.sheet.specs.declared.TaskSet.{TaskSet}
 use Rattle.sheet.specs.declared.Task.{Task}
 use Rattle.sheet.specs.declared.Written.the-variants.{Bytes}
@@ -75,9 +75,11 @@ too-long policy n records h = go (known-policy policy) refl
 
 -- ---- what is answered and left of a set by its count and its records is answered and left of the list
 
-module _ {A X : Type 0} (policy : ℕ) (refused : Refusal → X) (writes : List Task → List A) (says : List Task → X) (memory : List A) where
+module _ {A X : Type 0} (policy : ℕ) (checks : ℕ → List Task → List (Check Refusal)) (over : Refusal)
+    (over-is : (n : ℕ) (records : List Task) → most-tasks < n → first-refusal (checks n records) ≡ some over)
+    (refused : Refusal → X) (writes : List Task → List A) (says : List Task → X) (memory : List A) where
   abbrev pub call : ℕ → List Task → Call Refusal A X
-  call n records = record { checks = list-checks policy n records; writes = writes records; says = says records }
+  call n records = record { checks = checks n records; writes = writes records; says = says records }
 
   abbrev gathered : List Task → Call Refusal A X
   gathered list = call (gathered-of policy list .«task_count») (records-of (gathered-of policy list))
@@ -99,24 +101,40 @@ module _ {A X : Type 0} (policy : ℕ) (refused : Refusal → X) (writes : List 
         ap₂ (λ (n : ℕ) (records : List Task). answered Room refused (call n records) memory) (count-gathered policy list few) (records-gathered policy list few),
         ap₂ (λ (n : ℕ) (records : List Task). left-after Room (call n records) memory) (count-gathered policy list few) (records-gathered policy list few),
       )
-      go (no many) = both-refuse (gathered list) (call (length list) list) _ (too-long policy _ _ (count-over policy list (omega arith))) (too-long policy _ _ (omega arith))
+      go (no many) = both-refuse (gathered list) (call (length list) list) over (over-is _ _ (count-over policy list (omega arith))) (over-is _ _ (omega arith))
 
-module _ (policy : ℕ) (list : List Task) (room : List ℕ) where
-  both-written : (written (gathered-of policy list) room ≡ list-written policy list room) × (left (gathered-of policy list) room ≡ list-left policy list room)
+-- the refusal of too long a list that is written
+over-written : Bool → ℕ → Refusal
+over-written true policy = over-long (known-policy policy)
+over-written false policy = Version
+
+too-long-written : (version policy n : ℕ) (records : List Task) → most-tasks < n
+    → first-refusal (writing-checks version policy n records) ≡ some (over-written (version-among version-1 version-2 version) policy)
+unfolding writing-checks version-check over-written
+too-long-written version policy n records h = go (version-among version-1 version-2 version) refl
+  where
+    go : (b : Bool) → version-among version-1 version-2 version ≡ b → first-refusal (writing-checks version policy n records) ≡ some (over-written b policy)
+    go true e = passed-over _ Version _ (ap not e) ∙ some-first (list-checks policy n records) _ _ (too-long policy n records h)
+    go false e = applies _ Version _ (ap not e)
+
+module _ (version policy : ℕ) (list : List Task) (room : List ℕ) where
+  both-written : (written version (gathered-of policy list) room ≡ list-written version policy list room) × (left version (gathered-of policy list) room ≡ list-left version policy list room)
   unfolding written left writing sheet-bytes list-written list-left writing-list gathered-of
   both-written =
-      as-gathered policy not-written (λ records. sheet-of policy (map task-in records)) (λ records. Bytes (length (sheet-of policy (map task-in records)))) room list
+      as-gathered policy (writing-checks version policy) _ (too-long-written version policy) not-written
+      (λ records. sheet-of version policy (map task-in records)) (λ records. Bytes (length (sheet-of version policy (map task-in records)))) room list
 
-  pub written-gathered : written (gathered-of policy list) room ≡ list-written policy list room
+  pub written-gathered : written version (gathered-of policy list) room ≡ list-written version policy list room
   written-gathered = both-written .0
 
-  pub left-gathered : left (gathered-of policy list) room ≡ list-left policy list room
+  pub left-gathered : left version (gathered-of policy list) room ≡ list-left version policy list room
   left-gathered = both-written .1
 
+module _ (policy : ℕ) (list : List Task) (room : List ℕ) where
   both-analysed : (set-decision (gathered-of policy list) room ≡ list-analysed policy list room) × (set-left (gathered-of policy list) room ≡ list-times policy list room)
   unfolding set-decision set-left set-analysing list-analysed list-times analysing-list analysing gathered-of
   both-analysed =
-      as-gathered policy refused-decision (λ records. times-of policy (map task-in records)) (λ records. decision policy (map task-in records)) room list
+      as-gathered policy (list-checks policy) _ (too-long policy) refused-decision (λ records. times-of policy (map task-in records)) (λ records. decision policy (map task-in records)) room list
 
   pub decision-gathered : set-decision (gathered-of policy list) room ≡ list-analysed policy list room
   decision-gathered = both-analysed .0
@@ -128,13 +146,13 @@ module _ (policy : ℕ) (list : List Task) (room : List ℕ) where
 
 module _ (s : List ℕ) (list : List Task) where
   abbrev Reads : Answer → Type 0
-  Reads a = (read-answer (reading-of a (set-with (policy-of s) (tasks-of s))) (length list) ≡ list-read s list) × (scattered-of (reading-of a (set-with (policy-of s) (tasks-of s)) .set) list ≡ list-filled s list)
+  Reads a = (read-answer (reading-of a (version-of s) (set-with (policy-of s) (tasks-of s))) (length list) ≡ list-read s list) × (scattered-of (reading-of a (version-of s) (set-with (policy-of s) (tasks-of s)) .set) list ≡ list-filled s list)
 
   refused-so : (r : Refusal) → decided (sheet-checks s) ≡ Refused r → Reads (Refused r)
   unfolding list-read list-filled reading-list reading-of refused-reading blank-set set-with records-of laid
   refused-so r e =
       let t : TurnedAway Room not-read (reading-list s) list r = by-checks Room not-read (reading-list s) list r (one-applies (sheet-checks s) r e) in
-      (sym (reading-refused (reading-of (Refused r) (set-with (policy-of s) (tasks-of s))) (length list) r refl) ∙ sym (t .answer), scattered-all blank-set list (length-replicate most-tasks blank-record) zero-le zero-le ∙ sym (t .unchanged))
+      (sym (reading-refused (reading-of (Refused r) (version-of s) (set-with (policy-of s) (tasks-of s))) (length list) r refl) ∙ sym (t .answer), scattered-all blank-set list (length-replicate most-tasks blank-record) zero-le zero-le ∙ sym (t .unchanged))
 
   module _ (e : decided (sheet-checks s) ≡ Admitted) where
     few : length (tasks-of s) ≤ most-tasks
@@ -154,13 +172,13 @@ module _ (s : List ℕ) (list : List Task) where
     unfolding list-read list-filled reading-list reading-of refused-reading set-with
     short h =
         let t : TurnedAway Room not-read (reading-list s) list Room = by-room Room not-read (reading-list s) list (none-applies (sheet-checks s) e) (rw same-length h) in
-        (sym (list-short (reading-of Admitted (set-with (policy-of s) (tasks-of s))) (length list) refl h) ∙ sym (t .answer), scattered-short set list sixteen few h ∙ sym (t .unchanged))
+        (sym (list-short (reading-of Admitted (version-of s) (set-with (policy-of s) (tasks-of s))) (length list) refl h) ∙ sym (t .answer), scattered-short set list sixteen few h ∙ sym (t .unchanged))
 
     long : length (tasks-of s) ≤ length list → Reads Admitted
     unfolding list-read list-filled reading-list reading-of refused-reading set-with
     long h =
         let d : Done Room not-read (reading-list s) list = done Room not-read (reading-list s) list (none-applies (sheet-checks s) e) (rw same-length h) in (
-          sym (list-long (reading-of Admitted (set-with (policy-of s) (tasks-of s))) (length list) refl h) ∙ sym (d .answer),
+          sym (list-long (reading-of Admitted (version-of s) (set-with (policy-of s) (tasks-of s))) (length list) refl h) ∙ sym (d .answer),
           scattered-all set list sixteen few h ∙ ap (λ (records : List Task). laid records list) (records-with (policy-of s) (tasks-of s)) ∙ sym (d .holds),
         )
 
@@ -173,9 +191,9 @@ module _ (s : List ℕ) (list : List Task) where
   reads (Refused r) e = refused-so r e
 
   pub read-list-is : read-answer (reading s) (length list) ≡ list-read s list
-  unfolding reading
+  unfolding reading reading-among sheet-checks
   read-list-is = reads (decided (sheet-checks s)) refl .0
 
   pub filled-is : scattered-of (reading s .set) list ≡ list-filled s list
-  unfolding reading
+  unfolding reading reading-among sheet-checks
   filled-is = reads (decided (sheet-checks s)) refl .1

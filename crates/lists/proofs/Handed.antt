@@ -40,6 +40,16 @@ use Rattle.lists.specs.Lists.{gathered-of}
 use Rattle.lists.proofs.Records.{Value, set-val, set-tells, set-makes, set-typed}
 use Rattle.lists.proofs.Walk.{calls-told}
 
+-- what a list is gathered by
+abbrev pub gathers : Ended
+gathers = record {
+  signature = record { lifetimes = 1; outlives = []; params = plain (λ _. u32) ∷ shrSliceOf (0 ∷ []) tt (plain (λ _. T.the-row)) ∷ []; result = plain (λ _. S.the-row) };
+  kept = (yes, (yes, tt));
+}
+
+abbrev pub gathers-clauses : {M : Type 1} (𝓤 : URA M) → Clauses 𝓤 gathers
+gathers-clauses 𝓤 κs a = record { ghost = Unit {0}; requires = λ _. emp 𝓤; ensures = λ _ r e. fact 𝓤 (r ≡ gathered-of (a .0) (now (a .1 .0))) }
+
 -- E are the numbers, ε their type in MIR; R is what is answered
 module _ (E : RattleType) (ε : Ty) (R : Value) where
   -- of policy, list and memory; and of the set and the memory
@@ -57,12 +67,6 @@ module _ (E : RattleType) (ε : Ty) (R : Value) where
   abbrev pub handed : Ended
   handed = record {
     signature = record { lifetimes = 1; outlives = []; params = plain (λ _. S.the-row) ∷ mutSliceOf (0 ∷ []) tt (plain (λ _. E)) ∷ []; result = plain (λ _. R .row) };
-    kept = (yes, (yes, tt));
-  }
-
-  abbrev pub gathers : Ended
-  gathers = record {
-    signature = record { lifetimes = 1; outlives = []; params = plain (λ _. u32) ∷ shrSliceOf (0 ∷ []) tt (plain (λ _. T.the-row)) ∷ []; result = plain (λ _. S.the-row) };
     kept = (yes, (yes, tt));
   }
 
@@ -98,9 +102,6 @@ module _ (E : RattleType) (ε : Ty) (R : Value) where
 
     abbrev pub handed-clauses : {M : Type 1} (𝓤 : URA M) → Clauses 𝓤 handed
     handed-clauses 𝓤 κs a = record { ghost = Unit {0}; requires = λ _. emp 𝓤; ensures = λ _ r e. fact 𝓤 ((r ≡ said-of (a .0) (now (a .1 .0))) × (now (e .1 .0) ≡ left-of (a .0) (now (a .1 .0)))) }
-
-    abbrev pub gathers-clauses : {M : Type 1} (𝓤 : URA M) → Clauses 𝓤 gathers
-    gathers-clauses 𝓤 κs a = record { ghost = Unit {0}; requires = λ _. emp 𝓤; ensures = λ _ r e. fact 𝓤 (r ≡ gathered-of (a .0) (now (a .1 .0))) }
 
     module _ {M : Type 1} (𝓤 : URA M) (H : Heap 𝓤) (A : Atoms 𝓤) (W : Given 𝓤 H A) (κ κ′ : Lft) (q q′ : Share) (policy : ℕ) (x : RefT (List Task)) (y : RefT (List (E .Denot)))
         (policy-fits : policy < 2 ^ 32) (room : Room T.the-row (length (x .now))) (room′ : Room E (length (y .now))) where

@@ -136,13 +136,13 @@ module _ (s : TaskSet) (list : List Task) (sixteen : length (s .tasks) ≡ most-
 module _ (r : Reading) (n : ℕ) where
   pub reading-refused : (why : Refusal) → r .answer ≡ Refused why → not-read why ≡ read-answer r n
   unfolding read-answer read-by
-  reading-refused why e = ap (λ (a : Answer). read-by a (ltb n (r .set .«task_count»)) (r .set)) (sym e)
+  reading-refused why e = ap (λ (a : Answer). read-by a (ltb n (r .set .«task_count»)) (r .version) (r .set)) (sym e)
 
   module _ (e : r .answer ≡ Admitted) where
     pub list-short : n < r .set .«task_count» → not-read Room ≡ read-answer r n
     unfolding read-answer read-by
-    list-short h = sym (ap₂ (λ (a : Answer) (b : Bool). read-by a b (r .set)) e (lt-ltb n (r .set .«task_count») h))
+    list-short h = sym (ap₂ (λ (a : Answer) (b : Bool). read-by a b (r .version) (r .set)) e (lt-ltb n (r .set .«task_count») h))
 
-    pub list-long : r .set .«task_count» ≤ n → Set (r .set .policy) (r .set .«task_count») ≡ read-answer r n
+    pub list-long : r .set .«task_count» ≤ n → Set (r .version) (r .set .policy) (r .set .«task_count») ≡ read-answer r n
     unfolding read-answer read-by
-    list-long h = sym (ap₂ (λ (a : Answer) (b : Bool). read-by a b (r .set)) e (le-ltb n (r .set .«task_count») h))
+    list-long h = sym (ap₂ (λ (a : Answer) (b : Bool). read-by a b (r .version) (r .set)) e (le-ltb n (r .set .«task_count») h))

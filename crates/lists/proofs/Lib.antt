@@ -4,3 +4,4 @@ pub mod Walk
 pub mod Records
 pub mod Faces
 pub mod Handed
+pub mod Told

@@ -5,8 +5,8 @@ use lib.ListN.{length}
 use Rattle.lent.specs.Lent.{Call, answered, left-after}
 use Rattle.sheet.specs.Tasks.{task-in, record-of}
 use Rattle.sheet.specs.Admission.{list-checks}
-use Rattle.sheet.specs.Reading.{sheet-checks, policy-of, tasks-of}
-use Rattle.sheet.specs.Writing.{sheet-of}
+use Rattle.sheet.specs.Reading.{sheet-checks, version-of, policy-of, tasks-of}
+use Rattle.sheet.specs.Writing.{sheet-of, writing-checks}
 use Rattle.sheet.specs.declared.Task.{Task}
 use Rattle.sheet.specs.declared.Refusal.{Refusal}
 use Rattle.sheet.specs.declared.Refusal.the-variants.{Room}
@@ -21,13 +21,13 @@ use Rattle.lists.specs.declared.ListRead.the-variants.{TurnedAway as not
 
 -- ---- a sheet read into a list
 
--- the sheet's own refusals; a record for each of its tasks; the policy and the task count
+-- the sheet's own refusals; a record for each of its tasks; the version, the policy and the task count
 unfoldable pub reading-list : List ℕ → Call Refusal Task ListRead
 reading-list sheet =
     record {
       checks = sheet-checks sheet;
       writes = map record-of (tasks-of sheet);
-      says = Set (policy-of sheet) (length (tasks-of sheet));
+      says = Set (version-of sheet) (policy-of sheet) (length (tasks-of sheet));
     }
 
 unfoldable pub list-read : List ℕ → List Task → ListRead
@@ -38,20 +38,20 @@ list-filled sheet list = left-after Room (reading-list sheet) list
 
 -- ---- a list written to a sheet
 
--- the list's own refusals; its sheet; how many bytes
-unfoldable pub writing-list : ℕ → List Task → Call Refusal ℕ Written
-writing-list policy list =
+-- the refusals of a list that is written; its sheet of that version; how many bytes
+unfoldable pub writing-list : (version policy : ℕ) → List Task → Call Refusal ℕ Written
+writing-list version policy list =
     record {
-      checks = list-checks policy (length list) list;
-      writes = sheet-of policy (map task-in list);
-      says = Bytes (length (sheet-of policy (map task-in list)));
+      checks = writing-checks version policy (length list) list;
+      writes = sheet-of version policy (map task-in list);
+      says = Bytes (length (sheet-of version policy (map task-in list)));
     }
 
-unfoldable pub list-written : ℕ → List Task → List ℕ → Written
-list-written policy list room = answered Room not-written (writing-list policy list) room
+unfoldable pub list-written : (version policy : ℕ) → List Task → List ℕ → Written
+list-written version policy list room = answered Room not-written (writing-list version policy list) room
 
-unfoldable pub list-left : ℕ → List Task → List ℕ → List ℕ
-list-left policy list room = left-after Room (writing-list policy list) room
+unfoldable pub list-left : (version policy : ℕ) → List Task → List ℕ → List ℕ
+list-left version policy list room = left-after Room (writing-list version policy list) room
 
 -- ---- a list analysed
 

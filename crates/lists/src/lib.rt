@@ -91,9 +91,9 @@ pub fn scattered(set: TaskSet, list: &mut [Task])
     }
 }
 
-// What a reading into a list answers: the policy and the task count, or the refusal.
+// What a reading into a list answers: the version, the policy and the task count, or the refusal.
 pub enum ListRead {
-    Set(u32, u32),
+    Set(u32, u32, u32),
     TurnedAway(Refusal),
 }
 
@@ -116,7 +116,7 @@ fn read_answer(reading: Reading, n: usize) -> ListRead
             if n < set.task_count as usize {
                 return ListRead::TurnedAway(Refusal::Room);
             }
-            ListRead::Set(set.policy, set.task_count)
+            ListRead::Set(reading.version, set.policy, set.task_count)
         },
     }
 }
@@ -130,11 +130,11 @@ pub fn read_list(sheet: &[u8], list: &mut [Task]) -> ListRead
     read_answer(reading, list.len())
 }
 
-// A lent list written to a sheet.
-pub fn write_list(policy: u32, list: &[Task], sheet: &mut [u8]) -> Written
-    ensures { λ r. ⌜ (r ≡ list-written policy (now (list .entry)) (now (sheet .entry))) × (now (sheet .exit) ≡ list-left policy (now (list .entry)) (now (sheet .entry))) ⌝ }
+// A lent list written to a sheet of that version.
+pub fn write_list(version: u32, policy: u32, list: &[Task], sheet: &mut [u8]) -> Written
+    ensures { λ r. ⌜ (r ≡ list-written version policy (now (list .entry)) (now (sheet .entry))) × (now (sheet .exit) ≡ list-left version policy (now (list .entry)) (now (sheet .entry))) ⌝ }
 {
-    writer::write_sheet(gathered(policy, list), sheet)
+    writer::write_sheet(version, gathered(policy, list), sheet)
 }
 
 // A lent list analysed, its times to lent numbers.

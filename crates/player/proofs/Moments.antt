@@ -8,36 +8,38 @@ use Prim.Native.Nat.{ℕ, zero, suc, _≤_, _<_}
 use native.Mathlib.Decide.{decLe, decLt}
 use native.Mathlib.Nat.{le-refl, le-trans}
 use native.Mathlib.Omega.{arith}
-use lib.ListN.{length, getD, take, drop, replicate, length-replicate, drop-of-length-le}
+use lib.ListN.{length, getD, take, drop, set, replicate, length-replicate, length-set, drop-of-length-le}
 use lib.Seq.{take-all, take-suc, drop-cons}
 use Rattle.theory.specs.First.{first}
-use Rattle.theory.specs.Tasks.{Task, task-at, deadline-of}
+use Rattle.theory.specs.Tasks.{Task, task-at, frame-count, next-frame, deadline-of}
 use Rattle.theory.specs.Runs.{State, oldest-left, release, pick, tick, step, Legal}
 use Rattle.theory.proofs.Search.{first-same}
 use Rattle.theory.proofs.Steps.{oldest, Picked, in-stretch, highest, idle, picked, Held, held, held-seen}
 use Rattle.theory.proofs.Lanes.{total, oldest-none}
 use Rattle.sheet.specs.Constants.{most-tasks}
+use Rattle.order.specs.Claims.{Permutes}
 use Rattle.analysis.specs.Times.{place-of}
+use Rattle.analysis.proofs.Numbering.{number-back}
 use Rattle.plays.specs.Script.{Script, no-entry}
 use Rattle.plays.specs.ScriptRun.{by-place, released-at, choice, script-state, script-run, new-stretch}
 use Rattle.plays.specs.Play.{script-seen, task-misses, misser, all-done, shown-task, shown}
 use Rattle.plays.specs.declared.Entry.{Entry}
 use Rattle.plays.proofs.States.{run-seen}
 use Rattle.plays.proofs.ScriptLegal.{script-legal}
-use Rattle.plays.proofs.ScriptFacts.{member-at, entry-in-set, behind-no-sooner}
+use Rattle.plays.proofs.ScriptFacts.{member-at, NoneAt, entry-in-set, behind-no-sooner}
 use Rattle.plays.specs.OnePending.{Calm}
 use Rattle.plays.proofs.OnePending.{released-alone, oldest-at-most}
-use Rattle.plays.proofs.ScriptLanes.{by-place-length, place-found, number-found}
+use Rattle.plays.proofs.ScriptLanes.{by-place-length, place-found, number-found, task-of-number, by-place-admitted, script-next-in}
 use Rattle.plays.specs.Says.{AllReleased}
 use Rattle.plays.proofs.AllDone.{done-is, undone-is}
 use Rattle.player.specs.State.{at-rest, released, picked-by, ticked, late, first-late, misser-in, looking-ahead, shown-byte}
 use Rattle.player.specs.Shows.{Shows, rests}
-use Rattle.player.specs.Inside.Course.{Ready, InPlay, Seen}
+use Rattle.player.specs.Inside.Course.{Ready, InPlay, Seen, NextFrames}
 use Rattle.player.specs.declared.state.Player.{Player}
 use Rattle.player.proofs.Slots.{slot-late}
 use Rattle.player.proofs.Soonest.{misser-is}
 use Rattle.player.proofs.Steps.{pick-shows, picked-shows, ahead-shows, tick-shows, tick-byte}
-use Rattle.player.proofs.Releases.{Seeing, seeing-none, seeing-more, seeing-all, release-there}
+use Rattle.player.proofs.Releases.{Seeing, Turning, seeing-none, turning-none, seeing-more, frame-here, turning-more, seeing-all, turning-all, release-there}
 
 -- a row of zeros is zero at each place, and behind its end
 getD-zeros : (n i : ℕ) → _≡_ {A = ℕ} (getD (replicate n 0) i 0) 0
@@ -47,8 +49,10 @@ getD-zeros (suc n) (suc i) = getD-zeros n i
 
 module _ (order : List ℕ) (tasks : List Task) (sc : Script) where
   -- in the middle of the releases of tick t
-  pub record Releasing (t j : ℕ) (player : Player) : Type 0 where
+  pub record Releasing (t j : ℕ) (player : Player) (frames : List ℕ) : Type 0 where
     pub seeing : Seeing order tasks sc t (script-state order tasks sc t) j player
+    pub turning : Turning order tasks sc t (script-state order tasks sc t) j frames
+    pub room : length frames ≡ most-tasks
     pub released-by : (d : Entry) → List·Memᴰ d (take j (sc .entries)) → d .tick ≤ t
     pub rest-from : (d : Entry) → List·Memᴰ d (drop j (sc .entries)) → t ≤ d .tick
     pub within : j ≤ length (sc .entries)
@@ -76,6 +80,13 @@ module _ (order : List ℕ) (tasks : List Task) (sc : Script) where
     where
       zeros : (i : ℕ) → getD (at-rest .left) i 0 ≡ 0
       zeros i = getD-zeros most-tasks i
+
+  -- the first frames are kept
+  pub first-kept : Permutes (length tasks) order → (frames : List ℕ) → length frames ≡ most-tasks → ((i : ℕ) → i < length tasks → getD frames i 0 ≡ getD (sc .firsts) i 0)
+      → NextFrames order tasks sc 0 frames
+  unfolding script-state
+  first-kept permutes frames room first =
+      record { room = room; frame-is = λ i h. first i h ∙ ap (λ n. getD (sc .firsts) n 0) (sym (number-back (length tasks) order permutes i h)) }
 
   -- ---- misses
 
@@ -108,25 +119,49 @@ module _ (order : List ℕ) (tasks : List Task) (sc : Script) where
 
     -- ---- releases
 
-    pub releases-start : (t j : ℕ) (player : Player) → InPlay order tasks sc t j player → Releasing t j player
-    releases-start t j player at =
+    pub releases-start : (t j : ℕ) (player : Player) (frames : List ℕ) → InPlay order tasks sc t j player → NextFrames order tasks sc t frames → Releasing t j player frames
+    releases-start t j player frames at nexts =
+        let earlier : NoneAt t (take j (sc .entries)) = λ d m e. let l = at .released-before d m in let z : ⊥ = omega arith in absurd z in
         record {
-          seeing = seeing-none order tasks sc t j (script-state order tasks sc t) player (λ d m e. let l = at .released-before d m in let z : ⊥ = omega arith in absurd z) (at .shows);
+          seeing = seeing-none order tasks sc t j (script-state order tasks sc t) player earlier (at .shows);
+          turning = turning-none order tasks sc t j (script-state order tasks sc t) frames earlier (nexts .frame-is);
+          room = nexts .room;
           released-by = λ d m. let l = at .released-before d m in omega arith;
           rest-from = at .rest-from;
           within = at .within;
         }
 
-    module _ (t j : ℕ) (player : Player) (at : Releasing t j player) where
+    module _ (t j : ℕ) (player : Player) (frames : List ℕ) (at : Releasing t j player frames) where
+      turning-at : {u : ℕ} → u ≡ t → Turning order tasks sc u (script-state order tasks sc t) j frames
+      turning-at now = subst (λ u. Turning order tasks sc u (script-state order tasks sc t) j frames) (sym now) (at .turning)
+
+      -- the frame kept for the task of an entry of the tick is that of its job
+      kept-frame : (in-row : j < length (sc .entries)) → getD (sc .entries) j no-entry .tick ≡ t
+          → getD frames (getD (sc .entries) j no-entry .task) 0 ≡ script-state order tasks sc t .lanes (place-of order (getD (sc .entries) j no-entry .task)) .next
+      kept-frame in-row now = frame-here order tasks sc (ready .kept) (ready .few) (script-state order tasks sc t) j in-row frames (turning-at now)
+
+      -- and so one of the task's frames
+      pub frame-in : (in-row : j < length (sc .entries)) → getD (sc .entries) j no-entry .tick ≡ t
+          → getD frames (getD (sc .entries) j no-entry .task) 0 < frame-count (task-at tasks (getD (sc .entries) j no-entry .task))
+      frame-in in-row now =
+          let i = getD (sc .entries) j no-entry .task in
+          let in-set : i < length tasks = entry-in-set tasks sc (ready .kept) j in-row in
+          rw (kept-frame in-row now, ← task-of-number order tasks (ready .permutes) i in-set)
+          (script-next-in order tasks sc (by-place-admitted order tasks (ready .permutes) (ready .admitted)) legal (place-of order i) (place-found order tasks (ready .permutes) i in-set) t)
+
       -- an entry of the tick more
       pub releases-more : Calm order tasks sc t → (in-row : j < length (sc .entries)) → getD (sc .entries) j no-entry .tick ≡ t
-          → (deadline : ℕ) → ((k : ℕ) → deadline ≡ deadline-of (task-at tasks (getD (sc .entries) j no-entry .task)) k)
-          → Releasing t (suc j) (released player (getD (sc .entries) j no-entry) deadline)
-      releases-more calm in-row now deadline its =
+          → (deadline k : ℕ) → deadline ≡ deadline-of (task-at tasks (getD (sc .entries) j no-entry .task)) (getD frames (getD (sc .entries) j no-entry .task) 0)
+          → k ≡ next-frame (task-at tasks (getD (sc .entries) j no-entry .task)) (getD frames (getD (sc .entries) j no-entry .task) 0)
+          → Releasing t (suc j) (released player (getD (sc .entries) j no-entry) deadline) (set frames (getD (sc .entries) j no-entry .task) k)
+      releases-more calm in-row now deadline k its behind =
           record {
             seeing = subst (λ u. Seeing order tasks sc u (script-state order tasks sc t) (suc j) (released player e deadline)) now
-                (seeing-more order tasks sc (ready .kept) (ready .few) (script-state order tasks sc t) j in-row player deadline (its _) alone
+                (seeing-more order tasks sc (ready .kept) (ready .few) (script-state order tasks sc t) j in-row player deadline (its ∙ ap (deadline-of (task-at tasks (e .task))) (kept-frame in-row now)) alone
                 (subst (λ u. Seeing order tasks sc u (script-state order tasks sc t) j player) (sym now) (at .seeing)));
+            turning = subst (λ u. Turning order tasks sc u (script-state order tasks sc t) (suc j) (set frames (e .task) k)) now
+                (turning-more order tasks sc (ready .kept) (ready .few) (script-state order tasks sc t) j in-row frames (turning-at now) (at .room) k behind);
+            room = length-set frames (e .task) k ∙ at .room;
             released-by = λ d m. one-more d (List·Memᴰ·append-cases (take j (sc .entries)) (subst (List·Memᴰ d) (take-suc (sc .entries) j no-entry in-row) m));
             rest-from = λ d m. omega (arith, behind-no-sooner tasks sc (ready .kept) j in-row (ready .few) d m);
             within = omega arith;
@@ -147,14 +182,16 @@ module _ (order : List ℕ) (tasks : List Task) (sc : Script) where
           one-more d (inr m) = let same : d ≡ e = List·Memᴰ·eq-of-singleton m in omega (arith, ap (λ x. x .tick) same)
 
       -- no entry of the tick is left
-      pub releases-end : (j < length (sc .entries) → ¬ (getD (sc .entries) j no-entry .tick ≡ t)) → Seen order tasks sc t j player
-      releases-end not-now =
-          record {
-            shows = seeing-all order tasks sc (ready .permutes) t j player (λ d m e. let l = later d m in let z : ⊥ = omega arith in absurd z) (at .seeing);
-            released-by = at .released-by;
-            rest-after = later;
-            within = at .within;
-          }
+      pub releases-end : (j < length (sc .entries) → ¬ (getD (sc .entries) j no-entry .tick ≡ t)) → Seen order tasks sc t j player × NextFrames order tasks sc (suc t) frames
+      releases-end not-now = (
+        record {
+          shows = seeing-all order tasks sc (ready .permutes) t j none-left player (at .seeing);
+          released-by = at .released-by;
+          rest-after = later;
+          within = at .within;
+        },
+        record { room = at .room; frame-is = turning-all order tasks sc (ready .permutes) t j none-left frames (at .turning) },
+      )
         where
           behind : (d : Entry) → (in-row : j < length (sc .entries)) → (d ≡ getD (sc .entries) j no-entry) ⊎ List·Memᴰ d (drop (suc j) (sc .entries)) → t < d .tick
           behind d in-row m =
@@ -173,6 +210,9 @@ module _ (order : List ℕ) (tasks : List Task) (sc : Script) where
               go : Dec (j < length (sc .entries)) → t < d .tick
               go (yes in-row) = behind d in-row (List·Memᴰ·cases-cons (subst (List·Memᴰ d) (drop-cons (sc .entries) j no-entry in-row) m))
               go (no past) = absurd (List·Memᴰ·not-nil (subst (List·Memᴰ d) (drop-of-length-le (sc .entries) {i = j} (omega arith)) m))
+
+          none-left : NoneAt t (drop j (sc .entries))
+          none-left d m e = let l = later d m in let z : ⊥ = omega arith in absurd z
 
     -- ---- the tick
 

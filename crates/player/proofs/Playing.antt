@@ -10,27 +10,32 @@ use native.Mathlib.Numerals.{add-one}
 use native.Mathlib.Omega.{arith}
 use borrow.Author.Tests.{lt-ltb, le-ltb, le-leb, lt-leb, leb-true}
 use lib.Dec.{leb}
-use lib.ListN.{length, getD, take, set}
+use lib.ListN.{length, getD, take, set, replicate}
 use lib.Seq.{getD-take, take-all}
+use Rattle.bits.specs.Packed.{bits-of}
+use Rattle.check_word.specs.Division.{body}
 use Rattle.lent.specs.Lent.{laid}
 use Rattle.lent.proofs.Laid.{laid-to, laid-more, laid-all}
-use Rattle.theory.specs.Tasks.{Task}
+use Rattle.theory.specs.Tasks.{Task, task-at, frame-count, deadline-of}
 use Rattle.theory.proofs.Search.{Answer, answer, nothing, it-is, first-some}
 use Rattle.sheet.specs.Constants.{most-tasks, greatest-time}
+use Rattle.sheet.specs.Tasks.{task-in, no-record, next-round}
+use Rattle.sheet.proofs.Rounds.{next-is}
 use Rattle.plays.specs.Script.{Script, no-entry}
 use Rattle.plays.specs.Play.{task-misses, misser, all-done, over, end-of-play, shown, shown-from}
 use Rattle.plays.specs.declared.Entry.{Entry}
 use Rattle.plays.proofs.ScriptFacts.{member-at, entry-in-set}
 use Rattle.plays.specs.OnePending.{Calm}
 use Rattle.plays.proofs.PlayEnds.{not-over, still-on, over-by-miss, over-by-done, end-is, end-unique, before-end}
-use Rattle.scripts.specs.Reading.{entry-at}
+use Rattle.scripts.specs.Reading.{firsts-in, entry-at}
+use Rattle.scripts.proofs.Entries.{firsts-in-slots}
 use Rattle.player.specs.State.{never, at-rest, released, picked-by, misser-in, shown-byte}
-use Rattle.player.specs.Inside.Course.{never-released, upcoming, Seen, Stage, Going, Gone, order-on, looked-ahead, with-picked, after-tick, done-with, the-end, shown-on}
+use Rattle.player.specs.Inside.Course.{never-released, upcoming, Seen, Stage, FramesOn, Going, Gone, order-on, looked-ahead, with-picked, after-tick, done-with, the-end, shown-on}
 use Rattle.player.specs.declared.state.Player.{Player}
 use Rattle.player.specs.declared.course.Cast.{Cast}
 use Rattle.player.specs.declared.course.Progress.{Progress}
 use Rattle.player.specs.declared.course.End.{End}
-use Rattle.player.proofs.Moments.{Releasing, starts, releases-start, releases-more, releases-end, goes-on, legal, finds-misser, nobody-picked, picked-in, tick-shown, all-are-done, not-all-released, not-all-done, ahead-in-play}
+use Rattle.player.proofs.Moments.{Releasing, starts, first-kept, releases-start, frame-in, releases-more, releases-end, goes-on, legal, finds-misser, nobody-picked, picked-in, tick-shown, all-are-done, not-all-released, not-all-done, ahead-in-play}
 
 -- ---- the next entry
 
@@ -67,8 +72,8 @@ module _ {s : List ℕ} {cast : Cast} (stage : Stage s cast) where
       go (no ne) = omega arith
       go (yes e) = let z : ⊥ = omega (arith, ap (λ (x : Entry). x .tick) (upcoming-never s cast j (omega (arith, stage .entries-are)))) in absurd z
 
-  abbrev pub ReleasingOn : ℕ → ℕ → Player → Type 0
-  ReleasingOn t j player = Releasing order-here tasks-here sc-here t j player
+  abbrev pub ReleasingOn : ℕ → ℕ → Player → List ℕ → Type 0
+  ReleasingOn t j player frames = Releasing order-here tasks-here sc-here t j player frames
 
   -- no task misses up to moment t
   pub calm-so-far : (t : ℕ) (at : Progress) → Going stage t at → misser order-here tasks-here sc-here t ≡ none → Calm order-here tasks-here sc-here t
@@ -78,50 +83,62 @@ module _ {s : List ℕ} {cast : Cast} (stage : Stage s cast) where
       go (yes e) = rw e calm
       go (no ne) = not-over order-here tasks-here sc-here u (going .not-over u (omega arith)) .0
 
-  module _ (t j : ℕ) (soon : t < never) (player : Player) (at : ReleasingOn t j player) (next : Entry) (is : next ≡ upcoming s cast j) (now : next .tick ≡ t) where
+  module _ (t j : ℕ) (soon : t < never) (player : Player) (frames : List ℕ) (at : ReleasingOn t j player frames) (next : Entry) (is : next ≡ upcoming s cast j) (now : next .tick ≡ t) where
     in-row : j < length (stage .sc .entries)
     in-row = is-entry t j soon (at .within) (sym (ap (λ x. x .tick) is) ∙ now)
 
     entry-here : next ≡ in-turn j
     entry-here = is ∙ next-entry j in-row
 
-    -- what a release asks
-    pub entry-task : next .task < length (stage .tasks)
+    entry-task : next .task < length (stage .tasks)
     entry-task = rw entry-here (entry-in-set (stage .tasks) (stage .sc) (stage .ready .kept) j in-row)
 
-    pub entry-fits : (next .task < most-tasks) × (next .tick ≤ greatest-time) × (getD (cast .deadlines) (next .task) 0 ≤ greatest-time)
-    entry-fits = (
-      omega (arith, entry-task, stage .ready .few),
+    -- its task has a slot
+    pub entry-room : next .task < most-tasks
+    entry-room = omega (arith, entry-task, stage .ready .few)
+
+    -- what a release asks
+    pub entry-fits : (deadline k : ℕ) → deadline ≡ deadline-of (task-in (getD (cast .tasks) (next .task) no-record)) k
+        → (next .task < most-tasks) × (next .tick ≤ greatest-time) × (deadline ≤ greatest-time)
+    entry-fits deadline k its = (
+      entry-room,
       rw entry-here (stage .ready .ticks-in (in-turn j) (member-at (stage .sc .entries) j in-row)),
-      rw (stage .due-in _ 0 entry-task) (stage .ready .deadlines-in _ 0 entry-task),
+      rw (its, stage .task-is _ entry-task) (stage .ready .deadlines-in _ k entry-task),
     )
 
     pub entries-left : j < cast .entries
     entries-left = omega (arith, in-row, stage .entries-are)
 
-    -- one release more
-    pub one-more : Calm order-here tasks-here sc-here t → ReleasingOn t (j + 1) (released player next (getD (cast .deadlines) (next .task) 0))
-    one-more calm =
+    -- one release more: the deadline is that of the frame kept for its task, and the frame that follows is kept
+    pub one-more : Calm order-here tasks-here sc-here t → (deadline k : ℕ)
+        → deadline ≡ deadline-of (task-in (getD (cast .tasks) (next .task) no-record)) (getD frames (next .task) 0)
+        → k ≡ next-round (getD frames (next .task) 0) (frame-count (task-in (getD (cast .tasks) (next .task) no-record)))
+        → ReleasingOn t (j + 1) (released player next deadline) (set frames (next .task) k)
+    one-more calm deadline k its behind =
+        let at-tick = sym (ap (λ x. x .tick) entry-here) ∙ now in
         rw (entry-here, add-one j)
-        (releases-more order-here tasks-here sc-here (stage .ready) t j player at calm in-row (sym (ap (λ x. x .tick) entry-here) ∙ now) _
-        (λ k. stage .due-in _ k (entry-in-set (stage .tasks) (stage .sc) (stage .ready .kept) j in-row)))
+        (releases-more order-here tasks-here sc-here (stage .ready) t j player frames at calm in-row at-tick deadline k
+        (rw (entry-here, task-there) at its)
+        (rw (entry-here, task-there) at behind ∙ next-is _ _ (frame-in order-here tasks-here sc-here (stage .ready) t j player frames at in-row at-tick)))
+      where
+        task-there : task-in (getD (cast .tasks) (in-turn j .task) no-record) ≡ task-at tasks-here (in-turn j .task)
+        task-there = stage .task-is _ (entry-in-set (stage .tasks) (stage .sc) (stage .ready .kept) j in-row)
 
   -- the releases of a tick begin
-  pub release-starts : (t : ℕ) (at : Progress) → Going stage t at → ReleasingOn t (at .released) (at .player)
-  release-starts t at going = releases-start order-here tasks-here sc-here (stage .ready) t (at .released) (at .player) (going .in-play)
+  pub release-starts : (t : ℕ) (at : Progress) (frames : List ℕ) → Going stage t at → FramesOn stage t frames → ReleasingOn t (at .released) (at .player) frames
+  release-starts t at frames going nexts = releases-start order-here tasks-here sc-here (stage .ready) t (at .released) (at .player) frames (going .in-play) nexts
 
   -- and end
-  pub all-seen : (t j : ℕ) (player : Player) → ReleasingOn t j player → ¬ (upcoming s cast j .tick ≡ t) → Seen order-here tasks-here sc-here t j player
-  all-seen t j player at ne =
-      releases-end order-here tasks-here sc-here (stage .ready) t j player at (λ in-row e. ne (ap (λ x. x .tick) (next-entry j in-row) ∙ e))
+  pub all-seen : (t : ℕ) (at : Progress) (frames : List ℕ) → ReleasingOn t (at .released) (at .player) frames → at .next ≡ upcoming s cast (at .released)
+      → ¬ (at .next .tick ≡ t) → Gone stage t at frames
+  all-seen t at frames releasing is ne =
+      let (seen, nexts) = releases-end order-here tasks-here sc-here (stage .ready) t (at .released) (at .player) frames releasing
+      (λ in-row e. ne (ap (λ x. x .tick) (is ∙ next-entry (at .released) in-row) ∙ e)) in
+      record { seen = seen; next-is = is; frames-then = rw (add-one t) nexts }
 
   -- none of them is of this tick
-  pub none-to-see : (t : ℕ) (at : Progress) → Going stage t at → ¬ (at .next .tick ≡ t) → Gone stage t at
-  none-to-see t at going ne =
-      record {
-        seen = all-seen t (at .released) (at .player) (release-starts t at going) (λ e. ne (ap (λ x. x .tick) (going .next-is) ∙ e));
-        next-is = going .next-is;
-      }
+  pub none-to-see : (t : ℕ) (at : Progress) (frames : List ℕ) → Going stage t at → FramesOn stage t frames → ¬ (at .next .tick ≡ t) → Gone stage t at frames
+  none-to-see t at frames going nexts = all-seen t at frames (release-starts t at frames going nexts) (going .next-is)
 
   -- looking ahead
   pub still-going : (t : ℕ) (at then : Progress) → Going stage t at → then ≡ looked-ahead at t → Going stage t then
@@ -141,7 +158,7 @@ module _ {s : List ℕ} {cast : Cast} (stage : Stage s cast) where
     pub next-is : at .next ≡ upcoming s cast (at .released)
 
   -- the task that has the tick is picked
-  pub then-chosen : (t : ℕ) (at then : Progress) → Gone stage t at → then ≡ with-picked cast at → Chosen t then
+  pub then-chosen : (t : ℕ) (at then : Progress) {frames : List ℕ} → Gone stage t at frames → then ≡ with-picked cast at → Chosen t then
   then-chosen t at then gone is = rw is (record { before = at .player; seen = gone .seen; picks = refl; next-is = gone .next-is })
 
   -- ---- from moment to moment
@@ -149,6 +166,12 @@ module _ {s : List ℕ} {cast : Cast} (stage : Stage s cast) where
   -- before the first tick
   pub begins : Going stage 0 (record { player = at-rest; released = 0; next = upcoming s cast 0 })
   begins = record { in-play = starts order-here tasks-here sc-here; next-is = refl; not-over = λ u h. let z : ⊥ = omega arith in absurd z }
+
+  -- with the first frames of the script
+  pub frames-begin : (frames : List ℕ) → length frames ≡ most-tasks → frames ≡ laid (firsts-in (cast .count) (bits-of (body s))) (replicate most-tasks 0) → FramesOn stage 0 frames
+  frames-begin frames room is =
+      first-kept order-here tasks-here sc-here (stage .ready .permutes) frames room
+      (λ i h. sym (getD-take (cast .count) frames i 0 (omega (arith, stage .count-is))) ∙ ap (λ l. getD l i 0) (firsts-in-slots (cast .count) s frames is ∙ stage .firsts-are))
 
   -- the places of the order hold task numbers
   pub order-fits : (p : ℕ) → p < cast .count → getD (cast .order) p 0 < most-tasks

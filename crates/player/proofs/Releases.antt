@@ -5,12 +5,12 @@ use mathlib.Core.Path.{_≡_, refl, sym, ap, _∙_}
 use Prim.Native.Nat.{ℕ, suc, _+_, _≤_, _<_}
 use native.Mathlib.Decide.{ℕ-discrete}
 use native.Mathlib.Omega.{arith}
-use lib.ListN.{length, getD, take, drop, length-set}
+use lib.ListN.{length, getD, take, drop, set, length-set}
 use lib.Seq.{getD-set-same, getD-set-other}
 use Rattle.lent.specs.Checks.{first-refusal}
-use Rattle.theory.specs.Tasks.{Task, task-at, deadline-of}
+use Rattle.theory.specs.Tasks.{Task, task-at, next-frame, deadline-of}
 use Rattle.theory.specs.Runs.{job, Lane, State, release-lane, release}
-use Rattle.theory.proofs.Lanes.{total}
+use Rattle.theory.proofs.Lanes.{total, serve-lane-next}
 use Rattle.sheet.specs.Constants.{most-tasks}
 use Rattle.order.specs.Claims.{Permutes}
 use Rattle.analysis.specs.Times.{number-at, place-of}
@@ -22,8 +22,8 @@ use Rattle.plays.specs.Play.{script-seen}
 use Rattle.plays.specs.declared.Entry.{Entry}
 use Rattle.plays.proofs.Ledgers.{entry-is}
 use Rattle.plays.proofs.ScriptLegal.{entries-in-order}
-use Rattle.plays.proofs.ScriptFacts.{member-at, NoneAt, none-yet, none-more, entry-in-set, now-there, others-stay}
-use Rattle.plays.proofs.ScriptLanes.{task-of-number, seen-by-release}
+use Rattle.plays.proofs.ScriptFacts.{member-at, NoneAt, none-yet, none-more, entry-in-set, not-yet, now-there, others-stay}
+use Rattle.plays.proofs.ScriptLanes.{task-of-number, seen-by-release, state-by-serve}
 use Rattle.player.specs.State.{released}
 use Rattle.player.specs.Shows.{Slot, ShowsJobs, Shows, locks-of}
 use Rattle.player.specs.declared.state.Player.{Player}
@@ -44,6 +44,10 @@ module _ (order : List ℕ) (tasks : List Task) (sc : Script) where
   abbrev pub Seeing : ℕ → State → ℕ → Player → Type 0
   Seeing t s j player = ShowsJobs order tasks sc (λ i. lane-with t s j i .jobs) s player
 
+  -- and these frames are those of the next jobs
+  abbrev pub Turning : ℕ → State → ℕ → List ℕ → Type 0
+  Turning t s j frames = (i : ℕ) → i < length tasks → getD frames i 0 ≡ lane-with t s j i .next
+
   nothing-released : {o : Option Entry} (t i : ℕ) (l : Lane) → o ≡ none → release-lane (task-at tasks i) t (work-of o) l ≡ l
   unfolding release-lane work-of
   nothing-released t i l e = rw e
@@ -52,6 +56,10 @@ module _ (order : List ℕ) (tasks : List Task) (sc : Script) where
       → release-lane (task-at tasks i) t (work-of o) l .jobs ≡ l .jobs ++ (job t (l .next) (e .work) ∷ [])
   unfolding release-lane work-of
   one-released t i l e = rw e
+
+  then-next : {o : Option Entry} {e : Entry} (t i : ℕ) (l : Lane) → o ≡ some e → release-lane (task-at tasks i) t (work-of o) l .next ≡ next-frame (task-at tasks i) (l .next)
+  unfolding release-lane work-of
+  then-next t i l e = rw e
 
   -- before the first entry of the tick none is seen
   pub seeing-none : (t j : ℕ) (s : State) (player : Player) → NoneAt t (take j (sc .entries)) → Shows order tasks sc s player → Seeing t s j player
@@ -65,6 +73,11 @@ module _ (order : List ℕ) (tasks : List Task) (sc : Script) where
         due-room = shows .due-room;
         lock-room = shows .lock-room;
       }
+
+  pub turning-none : (t j : ℕ) (s : State) (frames : List ℕ) → NoneAt t (take j (sc .entries))
+      → ((i : ℕ) → i < length tasks → getD frames i 0 ≡ s .lanes (place-of order i) .next) → Turning t s j frames
+  turning-none t j s frames none-at kept i h =
+      rw (nothing-released t i (s .lanes (place-of order i)) (none-yet (sc .entries) j i t none-at)) (kept i h)
 
   module _ (kept : first-refusal (item-checks tasks sc) ≡ none) (few : length tasks ≤ most-tasks) (s : State) (j : ℕ) (in-row : j < length (sc .entries)) where
     abbrev e : Entry
@@ -88,6 +101,25 @@ module _ (order : List ℕ) (tasks : List Task) (sc : Script) where
     release-there permutes =
         released-of order sc (e .tick) (place-of order (e .task)) (number-back (length tasks) order permutes (e .task) (entry-in-set tasks sc kept j in-row))
         ∙ rw its-own
+
+    module _ (frames : List ℕ) (before : Turning (getD (sc .entries) j no-entry .tick) s j frames) where
+      -- the frame of its job is the one kept for its task
+      pub frame-here : getD frames (getD (sc .entries) j no-entry .task) 0 ≡ s .lanes (place-of order (getD (sc .entries) j no-entry .task)) .next
+      frame-here =
+          before (e .task) (entry-in-set tasks sc kept j in-row)
+          ∙ ap (λ l. l .next) (nothing-released (e .tick) (e .task) lane (not-yet tasks sc kept j in-row))
+
+      -- the frame behind it is that of the task's next job
+      pub turning-more : length frames ≡ most-tasks → (k : ℕ) → k ≡ next-frame (task-at tasks (getD (sc .entries) j no-entry .task)) (getD frames (getD (sc .entries) j no-entry .task) 0)
+          → Turning (getD (sc .entries) j no-entry .tick) s (suc j) (set frames (getD (sc .entries) j no-entry .task) k)
+      turning-more room k behind i h = go (ℕ-discrete i (e .task))
+        where
+          go : Dec (i ≡ e .task) → getD (set frames (e .task) k) i 0 ≡ lane-with (e .tick) s (suc j) i .next
+          go (yes same) =
+              rw (same, getD-set-same frames (e .task) k 0 (omega (arith, entry-in-set tasks sc kept j in-row)), then-next (e .tick) (e .task) lane (now-there tasks sc kept j in-row))
+              (behind ∙ ap (next-frame (task-at tasks (e .task))) frame-here)
+          go (no ne) =
+              rw (getD-set-other frames (e .task) i k 0 ne, others-stay tasks sc kept j in-row i (e .tick) (λ p _. ne (sym p))) (before i h)
 
     module _ (player : Player) (deadline : ℕ) (its-deadline : deadline ≡ deadline-of (task-at tasks (e .task)) (lane .next)) (alone : total (lane .jobs) ≡ 0)
         (before : Seeing (getD (sc .entries) j no-entry .tick) s j player) where
@@ -123,24 +155,29 @@ module _ (order : List ℕ) (tasks : List Task) (sc : Script) where
           go i h (no ne) = other-slot i h ne
 
   -- behind its last entry all releases of the tick are seen
-  pub seeing-all : Permutes (length tasks) order → (t j : ℕ) (player : Player) → NoneAt t (drop j (sc .entries))
-      → Seeing t (script-state order tasks sc t) j player → Shows order tasks sc (script-seen order tasks sc t) player
-  unfolding script-seen release
-  seeing-all permutes t j player none-at seeing =
-      record {
-        slots = λ i h. rw (seen i h) (seeing .slots i h);
-        coming = seeing .coming;
-        holder = seeing .holder;
-        no-sooner = seeing .no-sooner;
-        left-room = seeing .left-room;
-        due-room = seeing .due-room;
-        lock-room = seeing .lock-room;
-      }
-    where
-      same-release : (i : ℕ) → i < length tasks → released-at order sc t (place-of order i) ≡ work-of (entry-of (take j (sc .entries)) i t)
-      same-release i h = released-of order sc t (place-of order i) (number-back (length tasks) order permutes i h) ∙ ap work-of (none-more (sc .entries) j i t none-at)
+  module _ (permutes : Permutes (length tasks) order) (t j : ℕ) (none-at : NoneAt t (drop j (sc .entries))) where
+    same-release : (i : ℕ) → i < length tasks → released-at order sc t (place-of order i) ≡ work-of (entry-of (take j (sc .entries)) i t)
+    same-release i h = released-of order sc t (place-of order i) (number-back (length tasks) order permutes i h) ∙ ap work-of (none-more (sc .entries) j i t none-at)
 
-      seen : (i : ℕ) → i < length tasks → script-seen order tasks sc t .lanes (place-of order i) .jobs ≡ lane-with t (script-state order tasks sc t) j i .jobs
-      seen i h =
-          ap (λ l. l .jobs) (seen-by-release order tasks sc t (place-of order i))
-          ∙ rw (task-of-number order tasks permutes i h, same-release i h) refl
+    lane-seen : (i : ℕ) → i < length tasks → script-seen order tasks sc t .lanes (place-of order i) ≡ lane-with t (script-state order tasks sc t) j i
+    lane-seen i h = seen-by-release order tasks sc t (place-of order i) ∙ rw (task-of-number order tasks permutes i h, same-release i h) refl
+
+    pub seeing-all : (player : Player) → Seeing t (script-state order tasks sc t) j player → Shows order tasks sc (script-seen order tasks sc t) player
+    unfolding script-seen release
+    seeing-all player seeing =
+        record {
+          slots = λ i h. rw (ap (λ l. l .jobs) (lane-seen i h)) (seeing .slots i h);
+          coming = seeing .coming;
+          holder = seeing .holder;
+          no-sooner = seeing .no-sooner;
+          left-room = seeing .left-room;
+          due-room = seeing .due-room;
+          lock-room = seeing .lock-room;
+        }
+
+    -- a tick leaves the frames of the next jobs
+    pub turning-all : (frames : List ℕ) → Turning t (script-state order tasks sc t) j frames
+        → (i : ℕ) → i < length tasks → getD frames i 0 ≡ script-state order tasks sc (suc t) .lanes (place-of order i) .next
+    turning-all frames turning i h =
+        let (b, after) = state-by-serve order tasks sc t (place-of order i) in
+        turning i h ∙ sym (ap (λ l. l .next) after ∙ serve-lane-next b _ ∙ ap (λ l. l .next) (lane-seen i h))

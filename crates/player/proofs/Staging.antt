@@ -1,19 +1,12 @@
 -- The cast of a play that is not turned away, and what the entries cite.
-use mathlib.Core.List.{List, _++_, map, append-nil}
+use mathlib.Core.List.{List, map}
 use mathlib.Core.Path.{_≡_, refl, ap, _∙_}
-use Prim.Native.Nat.{ℕ, _+_, _≤_, _<_}
-use native.Mathlib.Omega.{arith}
+use Prim.Native.Nat.{ℕ, _≤_, _<_}
 use borrow.Author.Tests.{lt-ltb, le-ltb}
-use lib.ListN.{length, getD, take, set, length-map, List·getD-map, drop-of-length-le}
-use lib.Seq.{take-all}
-use Rattle.lent.specs.Lent.{laid}
-use Rattle.lent.proofs.Laid.{laid-to, laid-more, laid-all}
-use Rattle.theory.specs.Tasks.{deadline-of}
 use Rattle.sheet.specs.Constants.{most-tasks}
-use Rattle.sheet.specs.Tasks.{task-in, no-record, records-of, set-with}
+use Rattle.sheet.specs.Tasks.{task-in, records-of, set-with}
 use Rattle.sheet.specs.Admission.{decided}
 use Rattle.sheet.specs.Reading.{sheet-checks, policy-of, tasks-of}
-use Rattle.sheet.specs.declared.Task.{Task as Record}
 use Rattle.sheet.specs.declared.TaskSet.{TaskSet}
 use Rattle.sheet.specs.declared.Refusal.{Refusal}
 use Rattle.sheet.specs.declared.Answer.{Answer}
@@ -27,7 +20,7 @@ use Rattle.order.specs.declared.Ordered.{Ordered}
 use Rattle.scripts.specs.Reading.{entry-count}
 use Rattle.scripts.specs.Judging.{judgement}
 use Rattle.scripts.specs.declared.Judgement.the-variants.{Sound, Malformed, Unsound}
-use Rattle.player.specs.Inside.Staging.{deadlines-of, cast-for, not-staged, staged-by, set-staged, answer-staged, sheet-staged, said}
+use Rattle.player.specs.Inside.Staging.{cast-for, not-staged, staged-by, set-staged, answer-staged, sheet-staged, said}
 use Rattle.player.specs.declared.PlayRefusal.the-variants.{Base, Malformed as ill-made, Item}
 use Rattle.player.specs.declared.Readiness.the-variants.{Playable}
 use Rattle.player.specs.declared.Staged.{Staged}
@@ -44,33 +37,12 @@ module _ (end : End) where
   unfolding said
   said-done h = rw (le-ltb (end .task) most-tasks h)
 
--- ---- the deadlines
-
-module _ (records : List Record) (room : length records ≡ most-tasks) (memory : List ℕ) (memory-room : length memory ≡ most-tasks) where
-  many : length (deadlines-of records) ≡ most-tasks
-  many = length-map records (λ r. deadline-of (task-in r) 0) ∙ room
-
-  pub deadline-laid : (i : ℕ) → i < most-tasks → (d : ℕ) → d ≡ deadline-of (task-in (getD records i no-record)) 0
-      → set (laid-to (deadlines-of records) memory i) i d ≡ laid-to (deadlines-of records) memory (i + 1)
-  deadline-laid i h d e =
-      rw (e, ← List·getD-map (λ r. deadline-of (task-in r) 0) records i no-record) (laid-more (deadlines-of records) memory i _ (omega (arith, many)) (omega arith))
-
-  pub deadlines-laid : laid-to (deadlines-of records) memory most-tasks ≡ deadlines-of records
-  unfolding laid
-  deadlines-laid =
-      let all : take most-tasks (deadlines-of records) ≡ deadlines-of records = take-all most-tasks (deadlines-of records) (omega (arith, many)) in
-      laid-all (deadlines-of records) memory most-tasks (ap length all ∙ many)
-      ∙ ap (λ l. laid l memory) all
-      ∙ ap (λ l. deadlines-of records ++ l) (drop-of-length-le memory {i = length (deadlines-of records)} (omega (arith, many)))
-      ∙ append-nil (deadlines-of records)
-
 -- ---- the cast
 
-pub cast-is : (set : TaskSet) (bytes : List ℕ) (o : Ordered) (entries : ℕ) (deadlines : List ℕ) → o ≡ ordered set → entries ≡ entry-count (o .count) bytes
-    → deadlines ≡ deadlines-of (set .tasks)
-    → _≡_ {A = Cast} (record { count = o .count; entries = entries; order = o .numbers; deadlines = deadlines }) (cast-for set bytes)
+pub cast-is : (set : TaskSet) (bytes : List ℕ) (o : Ordered) (entries : ℕ) → o ≡ ordered set → entries ≡ entry-count (o .count) bytes
+    → _≡_ {A = Cast} (record { count = o .count; entries = entries; order = o .numbers; tasks = set .tasks }) (cast-for set bytes)
 unfolding cast-for ordered
-cast-is set bytes o entries deadlines eo ee ed = rw (ed, ee, eo) refl
+cast-is set bytes o entries eo ee = rw (ee, eo) refl
 
 -- ---- readiness
 

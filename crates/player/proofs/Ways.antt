@@ -1,41 +1,44 @@
 -- A sheet and a script: they are turned away as the order of the checks says, or the cast plays the sheet's script.
 use mathlib.Core.Bool.{true, false}
-use mathlib.Core.List.{List, [], _∷_, _++_, map, List·Memᴰ, List·Memᴰ·cases-cons, List·Memᴰ·not-nil}
+use mathlib.Core.List.{List, [], _∷_, map, List·Memᴰ, List·Memᴰ·cases-cons, List·Memᴰ·not-nil}
 use mathlib.Core.Logic.{_⊎_, inl, inr}
 use mathlib.Core.Option.{Option, none, some, Option·getD}
 use mathlib.Core.Path.{_≡_, refl, sym, ap, subst, _∙_}
-use Prim.Native.Nat.{ℕ, suc, _+_, _-_, _≤_, _<_}
+use Prim.Native.Nat.{ℕ, suc, _-_, _%_, _≤_, _<_}
 use native.Mathlib.Decide.{decLt}
-use native.Mathlib.Nat.{le-refl}
+use native.Mathlib.Nat.{le-refl, mod-lt}
 use native.Mathlib.Omega.{arith}
-use lib.ListN.{length, getD, take, replicate, length-map, length-append, List·getD-map, List·getD-append}
+use lib.ListN.{length, getD, take, replicate, length-map, length-append}
 use lib.Seq.{take-at}
+use Rattle.bits.specs.Packed.{bits-of}
+use Rattle.check_word.specs.Division.{body}
 use Rattle.lent.specs.Checks.{first-refusal}
 use Rattle.lent.specs.Lent.{laid}
 use Rattle.lent.proofs.Lent.{by-checks, by-room, done, turned-tells, done-tells}
-use Rattle.theory.specs.Tasks.{Task, task-at, deadline-of}
+use Rattle.theory.specs.Tasks.{Task, task-at, frame-count, deadline-of}
 use Rattle.theory.proofs.Search.{Answer, answer, nothing, it-is, first-some}
 use Rattle.sheet.specs.Constants.{most-tasks, greatest-time}
-use Rattle.sheet.specs.Tasks.{task-in, record-of, records-of, set-with, blank-record}
-use Rattle.sheet.specs.declared.Task.{Task as Record}
+use Rattle.sheet.specs.Tasks.{task-in, record-of, no-record, records-of, set-with, blank-record}
 use Rattle.sheet.specs.Admission.{decided}
 use Rattle.sheet.specs.Reading.{sheet-checks, policy-of, tasks-of}
 use Rattle.sheet.specs.declared.TaskSet.{TaskSet}
 use Rattle.sheet.specs.declared.Refusal.{Refusal}
 use Rattle.sheet.specs.declared.Refusal.the-variants.{Room}
 use Rattle.sheet.specs.declared.Answer.the-variants.{Admitted, Refused}
-use Rattle.sheet.proofs.Records.{task-in-record, tasks-with}
-use Rattle.sheet.proofs.Carried.{Carried, carried-fit, reading-answer, by-reading}
+use Rattle.sheet.proofs.Records.{tasks-with}
+use Rattle.sheet.proofs.InFields.{InFields}
+use Rattle.sheet.proofs.Turns.{time-at}
+use Rattle.sheet.proofs.Carried.{Carried, carried-fit, reading-answer, by-reading, many-found}
 use Rattle.sheet.proofs.Analysable.{each-at, admitted-sheet-is-admitted}
 use Rattle.order.specs.Order.{priority-order}
 use Rattle.order.specs.Ordered.{order-of, ordered}
-use Rattle.order.proofs.Records.{any-default}
+use Rattle.order.proofs.Records.{task-there}
 use Rattle.order.proofs.Order.{order-length, order-permutes}
 use Rattle.plays.specs.Items.{item-checks}
 use Rattle.plays.specs.Script.{Script, no-entry}
 use Rattle.plays.specs.declared.Entry.{Entry}
 use Rattle.plays.specs.Play.{task-misses, misser, end-of-play, shown-from}
-use Rattle.scripts.specs.Reading.{script-in, well-made, entry-at, entry-count}
+use Rattle.scripts.specs.Reading.{firsts-in, script-in, well-made, entry-at, entry-count}
 use Rattle.scripts.specs.Writing.{Fits}
 use Rattle.scripts.proofs.Entries.{count-of-entries, entry-is}
 use Rattle.scripts.proofs.RoundTrip.{numbers-fit}
@@ -56,10 +59,10 @@ use Rattle.player.proofs.Staging.{said-missed, said-done}
 use Rattle.player.proofs.Playing.{shown-length}
 use Rattle.player.proofs.Turned.{Told, by-sheet, by-form, by-item, by-nothing, told}
 
--- every frame of a task has the task's one deadline
-one-deadline : (t : Task) (k : ℕ) → deadline-of t k ≡ t .deadline
-unfolding deadline-of
-one-deadline t k = refl
+-- a deadline of a task whose numbers fit their fields is a time
+deadline-fits : (t : Task) (k : ℕ) → InFields t → deadline-of t k ≤ greatest-time
+unfolding deadline-of frame-count
+deadline-fits t k fit = omega (arith, time-at (t .deadlines) (k % frame-count t) (fit .deadlines-fit) (omega (arith, mod-lt k (fit .some-frame), fit .as-many)))
 
 -- what is true of each entry by its index is true of each member
 member-by-index : (P : Entry → Type 0) (es : List Entry) → ((j : ℕ) → j < length es → P (getD es j no-entry)) → (e : Entry) → List·Memᴰ e es → P e
@@ -69,9 +72,6 @@ member-by-index P (x ∷ es) h e m = go (List·Memᴰ·cases-cons m) (member-by-
     go : (e ≡ x) ⊎ List·Memᴰ e es → (List·Memᴰ e es → P e) → P e
     go (inl same) later = subst P (sym same) (h 0 (omega arith))
     go (inr m) later = later m
-
-abbrev due : Record → ℕ
-due r = deadline-of (task-in r) 0
 
 never-both : {r : PlayRefusal} → Playable ≡ Unplayable r → ⊥
 never-both e = let z : _≡_ {A = ℕ} 0 1 = cc in omega arith
@@ -111,7 +111,7 @@ module _ (sheet bytes : List ℕ) where
       go (by-nothing s w f) = record { admitted = rw s; made = w; kept = f }
 
   its-tasks : map task-in (records-of set) ≡ tasks
-  its-tasks = tasks-with (policy-of sheet) tasks
+  its-tasks = tasks-with (policy-of sheet) tasks (many-found sheet)
 
   staged-set : {j : Judgement} → decided (sheet-checks sheet) ≡ Admitted → judgement tasks bytes ≡ j → sheet-staged sheet bytes ≡ staged-by j set bytes
   unfolding sheet-staged answer-staged set-staged
@@ -183,23 +183,18 @@ module _ (sheet bytes : List ℕ) where
           as-many = fits .as-many;
           kept = playing .kept;
           ticks-in = member-by-index (λ e. e .tick ≤ greatest-time) (sc .entries) (λ j h. fits .entries-fit j h .tick-fits);
-          deadlines-in = λ i k h. rw (one-deadline (task-at tasks i) k) (omega (arith, each-at (carried-fit carried) i h .deadline-fits));
+          deadlines-in = λ i k h. deadline-fits (task-at tasks i) k (each-at (carried-fit carried) i h);
         }
 
-    its-deadlines : (i k : ℕ) → i < n → getD (cast .deadlines) i 0 ≡ deadline-of (task-at tasks i) k
-    unfolding cast-for set-with task-at
-    its-deadlines i k h =
-        let t : Task = record { period = 0; deadline = 0; lock = 0; frames = [] } in
-        let records = map record-of tasks ++ replicate (most-tasks - n) blank-record in
-        let there : i < length (map record-of tasks) = omega (arith, length-map tasks record-of) in
-        let all : length (map due records) ≡ length records = length-map records due in
-        let long : length records ≡ length (map record-of tasks) + length (replicate (most-tasks - n) blank-record) = length-append (map record-of tasks) (replicate (most-tasks - n) blank-record) in
-        any-default (map due records) i 0 (due (record-of t)) (omega arith)
-        ∙ List·getD-map due records i (record-of t)
-        ∙ ap due (List·getD-append (map record-of tasks) _ (record-of t) i there ∙ List·getD-map record-of tasks i t)
-        ∙ ap (λ u. deadline-of u 0) (task-in-record (task-at tasks i))
-        ∙ one-deadline (task-at tasks i) 0
-        ∙ sym (one-deadline (task-at tasks i) k)
+    its-records : (i : ℕ) → i < n → task-in (getD (cast .tasks) i no-record) ≡ task-at tasks i
+    unfolding cast-for set-with records-of
+    its-records i h =
+        sym (task-there (set .tasks) n i no-record h (omega (arith, length-append (map record-of tasks) (replicate (most-tasks - n) blank-record), length-map tasks record-of)))
+        ∙ ap (λ ts. task-at ts i) its-tasks
+
+    its-firsts : firsts-in (cast .count) (bits-of (body bytes)) ≡ sc .firsts
+    unfolding script-in
+    its-firsts = ap (λ m. firsts-in m (bits-of (body bytes))) count-is
 
     -- the script is one of which no item is turned away
     pub is-ready : Ready (order-in sheet) (tasks-of sheet) (script-for sheet bytes)
@@ -214,9 +209,11 @@ module _ (sheet bytes : List ℕ) where
           sc = sc;
           ready = rw played-order ready;
           count-is = count-is;
+          made = rw count-is (playing .made);
+          firsts-are = its-firsts;
           entries-are = entries-are;
           entry-is = λ j h. ap (λ m. entry-at m bytes j) count-is ∙ entry-is n bytes (playing .made) j h;
-          due-in = its-deadlines;
+          task-is = its-records;
         }
 
     -- the end that it says is that of the sheet's run

@@ -9,16 +9,17 @@ use crate::state::NEVER;
 use crate::state::Player;
 use plays::Entry;
 use sheet::Sheet;
+use sheet::Task;
 
-// Who plays: how many tasks and entries there are, the task numbers in priority order, and the deadline of each task.
+// Who plays: how many tasks and entries there are, the task numbers in priority order, and the record of each task.
 pub struct Cast {
     pub count: u32,
     pub entries: u32,
     pub order: [u32; Sheet::TASK_ROOM],
-    pub deadlines: [u32; Sheet::TASK_ROOM],
+    pub tasks: [Task; Sheet::TASK_ROOM],
 }
 
-// How far a play has come: the state, how many entries were released, and the next one.
+// How far a play has come: the state, how many entries were released, and the next one. The frame of each task's next job is kept apart, since few ticks change it.
 struct Progress {
     player: Player,
     released: u32,
@@ -75,19 +76,22 @@ fn ahead(at: Progress, moment: u32) -> Progress
     }
 }
 
-// The releases of a tick.
-fn releases(script: &[u8], cast: Cast, at: Progress, moment: u32) -> Progress
-    requires { ⌜ Calmly (now script) cast moment at ⌝ }
-    ensures { λ r. ⌜ ((on : Calmly (now (script .entry)) cast moment at) → Gone (on .stage) moment r) ⌝ }
+// The releases of a tick: a job has the deadline of its frame, and its task's next job the frame that follows.
+fn releases(script: &[u8], cast: Cast, at: Progress, moment: u32, frames: &mut [u32]) -> Progress
+    requires { ⌜ Calmly (now script) cast moment at (now frames) ⌝ }
+    ensures { λ r. ⌜ ((on : Calmly (now (script .entry)) cast moment at (now (frames .entry))) → Gone (on .stage) moment r (now (frames .exit))) ⌝ }
 {
-    let deadlines = cast.deadlines;
+    let tasks = cast.tasks;
     let mut player = at.player;
     let mut released = at.released;
     let mut next = at.next;
     while next.tick == moment {
         let i = next.task as usize;
-        let then = player.release(next, deadlines[i]);
+        let task = tasks[i];
+        let k = frames[i];
+        let then = player.release(next, sheet::deadline_of(task, k as usize));
         player = then;
+        frames[i] = sheet::frame_after(task, k);
         released += 1;
         next = upcoming(script, cast, released);
     }
@@ -99,16 +103,16 @@ fn releases(script: &[u8], cast: Cast, at: Progress, moment: u32) -> Progress
 }
 
 // The same, at once where there are none.
-fn seen(script: &[u8], cast: Cast, at: Progress, moment: u32) -> Progress
-    requires { ⌜ Calmly (now script) cast moment at ⌝ }
-    ensures { λ r. ⌜ ((on : Calmly (now (script .entry)) cast moment at) → Gone (on .stage) moment r) ⌝ }
+fn seen(script: &[u8], cast: Cast, at: Progress, moment: u32, frames: &mut [u32]) -> Progress
+    requires { ⌜ Calmly (now script) cast moment at (now frames) ⌝ }
+    ensures { λ r. ⌜ ((on : Calmly (now (script .entry)) cast moment at (now (frames .entry))) → Gone (on .stage) moment r (now (frames .exit))) ⌝ }
 {
     let next = at.next;
     // which is so at most ticks
     if next.tick != moment {
         return at;
     }
-    releases(script, cast, at, moment)
+    releases(script, cast, at, moment, frames)
 }
 
 // The task that has the tick is picked.
@@ -157,6 +161,7 @@ pub fn play_on(script: &[u8], cast: Cast) -> End
     requires { ⌜ Stage (now script) cast ⌝ }
     ensures { λ r. ⌜ ((stage : Stage (now (script .entry)) cast) → r ≡ the-end stage) ⌝ }
 {
+    let mut frames = scripts::first_frames(script, cast.count);
     let mut at = start(script, cast);
     let mut moment: u32 = 0;
     while moment <= LAST_MOMENT {
@@ -166,7 +171,7 @@ pub fn play_on(script: &[u8], cast: Cast) -> End
             return End { tick: moment, task };
         }
         let calm = ahead(at, moment);
-        let then = picked(cast, seen(script, cast, calm, moment));
+        let then = picked(cast, seen(script, cast, calm, moment, &mut frames));
         if all_done(then, cast.entries) {
             return End {
                 tick: moment,
@@ -188,10 +193,11 @@ pub fn trace_on(script: &[u8], cast: Cast, end: u32, ticks: &mut [u8])
     requires { ⌜ Traceable (now script) cast end (length (now ticks)) ⌝ }
     ensures { λ _. ⌜ ((stage : Stage (now (script .entry)) cast) → now (ticks .exit) ≡ laid (shown-on stage end) (now (ticks .entry))) ⌝ }
 {
+    let mut frames = scripts::first_frames(script, cast.count);
     let mut at = start(script, cast);
     let mut moment: u32 = 0;
     while moment < end {
-        let then = picked(cast, seen(script, cast, at, moment));
+        let then = picked(cast, seen(script, cast, at, moment, &mut frames));
         let player = then.player;
         ticks[moment as usize] = player.shown();
         at = ticked(then);

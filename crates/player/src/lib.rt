@@ -2,7 +2,7 @@
 ghost use mathlib.Core.Path.{_≡_};
 ghost use Rattle.player.specs.Refusals.{play-number-of};
 ghost use Rattle.player.specs.Answers.{played, traced, trace-left};
-ghost use Rattle.player.specs.Inside.Staging.{deadlines-of, cast-for, not-staged, set-staged, sheet-staged, said};
+ghost use Rattle.player.specs.Inside.Staging.{cast-for, not-staged, set-staged, sheet-staged, said};
 
 mod course;
 mod state;
@@ -63,21 +63,9 @@ fn not_staged(why: PlayRefusal) -> Staged
             count: 0,
             entries: 0,
             order: [0; Sheet::TASK_ROOM],
-            deadlines: [0; Sheet::TASK_ROOM],
+            tasks: [Task::blank(); Sheet::TASK_ROOM],
         },
     }
-}
-
-// The deadline of each task: every frame has the task's one.
-fn deadlines_of(tasks: [Task; Sheet::TASK_ROOM]) -> [u32; Sheet::TASK_ROOM]
-    ensures { λ r. ⌜ r ≡ deadlines-of tasks ⌝ }
-{
-    let mut deadlines = [0u32; Sheet::TASK_ROOM];
-    for i in 0..Sheet::TASK_ROOM {
-        let task = tasks[i];
-        deadlines[i] = sheet::deadline_of(task, 0);
-    }
-    deadlines
 }
 
 // The cast of a set that plays a script.
@@ -86,13 +74,12 @@ fn cast_of(set: TaskSet, script: &[u8]) -> Cast
 {
     let ordered = order::in_order(set);
     let tasks = set.tasks;
-    let deadlines = deadlines_of(tasks);
     let order = ordered.numbers;
     Cast {
         count: ordered.count,
         entries: scripts::entry_count(script, ordered.count),
         order,
-        deadlines,
+        tasks,
     }
 }
 

@@ -1,4 +1,4 @@
--- Scripts played by computation: case F in exactly its response time, two tasks that lock, case G's worst run, two tasks that miss at one moment, no entry and no work.
+-- Scripts played by computation: case F in exactly its response time, two tasks that lock, case G's worst run, two frames with a deadline each, two tasks that miss at one moment, no entry and no work.
 use mathlib.Core.List.{List, [], _∷_}
 use mathlib.Core.Option.{none, some}
 use mathlib.Core.Path.{_≡_, refl}
@@ -29,7 +29,7 @@ at i t w l = record { task = i; tick = t; work = w; lock = l }
 
 -- two tasks as cases F and G have them, with that Q
 abbrev two : ℕ → List Task
-two Q = record { period = 10; deadline = 4; lock = 0; frames = 2 ∷ [] } ∷ record { period = 20; deadline = 20; lock = Q; frames = 5 ∷ [] } ∷ []
+two Q = record { period = 10; lock = 0; frames = 2 ∷ []; deadlines = 4 ∷ [] } ∷ record { period = 20; lock = Q; frames = 5 ∷ []; deadlines = 20 ∷ [] } ∷ []
 
 abbrev listed : List ℕ
 listed = 0 ∷ 1 ∷ []
@@ -48,7 +48,7 @@ exactly-4-is = (refl, refl, refl, refl)
 -- ---- two tasks that lock: a higher task waits for a stretch, a stretch starts anew, and one ends with its job
 
 abbrev locking : List Task
-locking = record { period = 8; deadline = 7; lock = 2; frames = 3 ∷ 2 ∷ [] } ∷ record { period = 20; deadline = 20; lock = 3; frames = 7 ∷ [] } ∷ []
+locking = record { period = 8; lock = 2; frames = 3 ∷ 2 ∷ []; deadlines = 7 ∷ 7 ∷ [] } ∷ record { period = 20; lock = 3; frames = 7 ∷ []; deadlines = 20 ∷ [] } ∷ []
 
 abbrev two-locks : Script
 two-locks = record { firsts = 0 ∷ 0 ∷ []; entries = at 1 0 7 3 ∷ at 0 2 3 2 ∷ at 0 10 2 2 ∷ [] }
@@ -70,10 +70,21 @@ worst-of-g-is : (worst-script listed (two 4) 0 0 ≡ worst-of-g) × (first-refus
 unfolding plays
 worst-of-g-is = (refl, refl, refl, refl, refl)
 
+-- ---- two frames with a deadline each: the shorter frame misses, the longer one does not
+
+abbrev each-its-own : List Task
+each-its-own = record { period = 8; lock = 0; frames = 3 ∷ 1 ∷ []; deadlines = 6 ∷ 2 ∷ [] } ∷ record { period = 20; lock = 3; frames = 4 ∷ []; deadlines = 20 ∷ [] } ∷ []
+
+-- the worst run of frame 1 misses at 1 + 2, that of frame 0 is done at 1 + 5
+each-its-own-is : (misser listed each-its-own (worst-script listed each-its-own 0 1) 3 ≡ some 0) × (end-of-play listed each-its-own (worst-script listed each-its-own 0 1) ≡ 3)
+    × (misser listed each-its-own (worst-script listed each-its-own 0 0) 6 ≡ none) × (end-of-play listed each-its-own (worst-script listed each-its-own 0 0) ≡ 6)
+unfolding plays
+each-its-own-is = (refl, refl, refl, refl)
+
 -- ---- two tasks that miss at one moment: the lower number is named, though it stands lower in the order
 
 abbrev three : List Task
-three = let t : Task = record { period = 5; deadline = 2; lock = 0; frames = 2 ∷ [] } in t ∷ t ∷ t ∷ []
+three = let t : Task = record { period = 5; lock = 0; frames = 2 ∷ []; deadlines = 2 ∷ [] } in t ∷ t ∷ t ∷ []
 
 both-miss : let sc : Script = record { firsts = 0 ∷ 0 ∷ 0 ∷ []; entries = at 0 0 2 0 ∷ at 1 0 2 0 ∷ at 2 0 2 0 ∷ [] } in
     (end-of-play (2 ∷ 1 ∷ 0 ∷ []) three sc ≡ 2) × (misser (2 ∷ 1 ∷ 0 ∷ []) three sc 2 ≡ some 0)

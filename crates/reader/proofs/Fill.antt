@@ -19,7 +19,7 @@ answer-to ByteLeft = Refused Records
 answer-to FillSet = Refused BitSet
 answer-to Zeros = Admitted
 
-pub fill-answer : (bs : List Bool) → answer-to (rest-of bs) ≡ decided (layout-checks 0 0 bs)
+pub fill-answer : (bs : List Bool) → answer-to (rest-of bs) ≡ decided (layout-checks true 0 0 bs)
 unfolding rest-of layout-checks decided first-refusal
 fill-answer bs = go (leb byte-width (length bs)) (some-set bs)
   where

@@ -1,15 +1,18 @@
 // The reader: sheet bytes to a set, or the one refusal.
 ghost use mathlib.Core.Path.{_≡_};
-ghost use Prim.Native.Nat.{_*_, _≤_};
-ghost use lib.ListN.{length, drop};
+ghost use mathlib.Core.Bool.{true};
+ghost use Prim.Native.Nat.{_*_, _≤_, _<_};
+ghost use lib.ListN.{length, getD, take, drop};
 ghost use Rattle.bits.specs.Packed.{bits-of};
 ghost use Rattle.records.specs.Rows.{total};
 ghost use Rattle.sheet.specs.Constants.{most-tasks, most-frames, greatest-size};
-ghost use Rattle.sheet.specs.Fields.{header-widths};
+ghost use Rattle.sheet.specs.Fields.{header-widths, frame-count-field, frame-fields};
+ghost use Rattle.sheet.specs.Tasks.{record-of};
+ghost use Rattle.sheet.specs.Layout.{task-from};
 ghost use Rattle.sheet.specs.Admission.{decided};
-ghost use Rattle.sheet.specs.Reading.{layout-checks, reading, refused-reading};
+ghost use Rattle.sheet.specs.Reading.{layout-checks, reading-among, reading, refused-reading};
 ghost use Rattle.reader.specs.Sheets.{sheet-judged};
-ghost use Rattle.reader.specs.Inside.Parts.{frame-times-at, found-at, nothing-found, records-reading, body-reading};
+ghost use Rattle.reader.specs.Inside.Parts.{fixed-row-at, frame-row-at, deadline-in, found-at, nothing-found, records-reading, body-reading, bytes-reading};
 use admission::Judged;
 use records::Rest;
 use records::Row;
@@ -32,6 +35,7 @@ fn refused(why: Refusal) -> Reading
 {
     Reading {
         answer: Answer::Refused(why),
+        version: 0,
         set: TaskSet::blank(),
     }
 }
@@ -46,60 +50,128 @@ fn not_found(why: Refusal) -> Found
     }
 }
 
-// The frame times of a record, and where they end; 0 in the slots past them.
-struct Times {
+// The numbers of a record's fixed part and of its frames, and where each ends; 0 in the slots past them.
+struct FixedRow {
     end: Row,
-    times: [u32; Sheet::FRAME_ROOM],
+    numbers: [u32; Sheet::FIXED_ROOM],
 }
 
-// The frame times that stand one after another from `at` on.
-fn read_times(body: &[u8], at: usize, count: u32) -> Times
-    requires { ⌜ count ≤ most-frames ⌝ }
-    ensures { λ r. ⌜ r ≡ frame-times-at (now (body .entry)) at count ⌝ }
+struct FrameRow {
+    end: Row,
+    numbers: [u32; Sheet::FRAME_FIELDS_ROOM],
+}
+
+// The fixed part that stands from `at` on.
+fn read_fixed(body: &[u8], at: usize, own: bool) -> FixedRow
+    ensures { λ r. ⌜ r ≡ fixed-row-at own (now (body .entry)) at ⌝ }
 {
-    let mut times = [0u32; Sheet::FRAME_ROOM];
-    let per_frame = Sheet::frame_widths();
+    let mut numbers = [0u32; Sheet::FIXED_ROOM];
+    let widths = Sheet::fixed_widths(own);
+    let fields = Sheet::fixed_fields(own);
+    let end = records::take_row(body, at, &widths[..fields], &mut numbers);
+    FixedRow { end, numbers }
+}
+
+// The frames that stand one after another from `at` on.
+fn read_frames(body: &[u8], at: usize, own: bool, count: u32) -> FrameRow
+    requires { ⌜ count ≤ most-frames ⌝ }
+    ensures { λ r. ⌜ r ≡ frame-row-at own (now (body .entry)) at count ⌝ }
+{
+    let mut numbers = [0u32; Sheet::FRAME_FIELDS_ROOM];
+    let widths = Sheet::frame_widths();
+    let fields = Sheet::frame_fields(own) * count as usize;
+    let end = records::take_row(body, at, &widths[..fields], &mut numbers);
+    FrameRow { end, numbers }
+}
+
+// The frame count in a fixed part.
+fn count_in(own: bool, numbers: [u32; Sheet::FIXED_ROOM]) -> u32
+    ensures { λ r. ⌜ r ≡ getD numbers (frame-count-field own) 0 ⌝ }
+{
+    numbers[Sheet::frame_count_field(own)]
+}
+
+// The time of frame k in the numbers of a record's frames.
+fn time_in(own: bool, row: [u32; Sheet::FRAME_FIELDS_ROOM], k: usize) -> u32
+    requires { ⌜ k < most-frames ⌝ }
+    ensures { λ r. ⌜ r ≡ getD row (frame-fields own * k) 0 ⌝ }
+{
+    row[Sheet::frame_fields(own) * k]
+}
+
+// Its deadline: behind its time, or the one of the fixed part.
+fn deadline_in(
+    own: bool,
+    numbers: [u32; Sheet::FIXED_ROOM],
+    row: [u32; Sheet::FRAME_FIELDS_ROOM],
+    k: usize,
+) -> u32
+    requires { ⌜ k < most-frames ⌝ }
+    ensures { λ r. ⌜ r ≡ deadline-in own numbers row k ⌝ }
+{
+    if own {
+        return row[2 * k + 1];
+    }
+    numbers[Sheet::DEADLINE_FIELD]
+}
+
+// The task of the numbers in a record.
+fn task_from(
+    own: bool,
+    numbers: [u32; Sheet::FIXED_ROOM],
+    row: [u32; Sheet::FRAME_FIELDS_ROOM],
+    count: u32,
+) -> Task
+    requires { ⌜ count ≤ most-frames ⌝ }
+    ensures { λ r. ⌜ r ≡ record-of (task-from own numbers (take (frame-fields own * count) row)) ⌝ }
+{
+    let mut frames = [0u32; Sheet::FRAME_ROOM];
+    let mut deadlines = [0u32; Sheet::FRAME_ROOM];
     let in_use = count as usize;
-    let end = records::take_row(body, at, &per_frame[..in_use], &mut times);
-    Times { end, times }
+    for k in 0..in_use {
+        frames[k] = time_in(own, row, k);
+        deadlines[k] = deadline_in(own, numbers, row, k);
+    }
+    Task {
+        period: numbers[Sheet::PERIOD_FIELD],
+        lock: numbers[Sheet::lock_field(own)],
+        frame_count: count,
+        frames,
+        deadlines,
+    }
 }
 
 // The record of task i at `at`: 8 if the fixed bits are not all there, 7, 8 if its frames are not.
-fn read_record(body: &[u8], at: usize, i: u32) -> Found
+fn read_record(body: &[u8], at: usize, own: bool, i: u32) -> Found
     requires { ⌜ length (now body) ≤ greatest-size ⌝ }
-    ensures { λ r. ⌜ r ≡ found-at i at (drop at (bits-of (now (body .entry)))) ⌝ }
+    ensures { λ r. ⌜ r ≡ found-at own i at (drop at (bits-of (now (body .entry)))) ⌝ }
 {
-    let mut fixed = [0u32; Sheet::FIXED_FIELDS];
-    let widths = Sheet::fixed_widths();
-    let Row::EndsAt(behind) = records::take_row(body, at, &widths, &mut fixed) else {
+    let fixed = read_fixed(body, at, own);
+    let fixed_end = fixed.end;
+    let Row::EndsAt(behind) = fixed_end else {
         return not_found(Refusal::Records);
     };
-    let count = fixed[Sheet::FRAME_COUNT_FIELD];
+    let numbers = fixed.numbers;
+    let count = count_in(own, numbers);
     if sheet::miscounted(count, Sheet::MOST_FRAMES) {
         return not_found(Refusal::FrameCount(i));
     }
-    let found = read_times(body, behind, count);
-    let end = found.end;
+    let frames = read_frames(body, behind, own, count);
+    let end = frames.end;
     let Row::EndsAt(next) = end else {
         return not_found(Refusal::Records);
     };
-    let times = found.times;
+    let row = frames.numbers;
     Found {
         answer: Answer::Admitted,
         next,
-        task: Task {
-            period: fixed[Sheet::PERIOD_FIELD],
-            deadline: fixed[Sheet::DEADLINE_FIELD],
-            lock: fixed[Sheet::LOCK_FIELD],
-            frame_count: count,
-            frames: times,
-        },
+        task: task_from(own, numbers, row, count),
     }
 }
 
 // What stands behind the last record: 8 for bits left, 5 for fill bits.
 fn check_fill(body: &[u8], at: usize) -> Answer
-    ensures { λ r. ⌜ r ≡ decided (layout-checks 0 0 (drop at (bits-of (now (body .entry))))) ⌝ }
+    ensures { λ r. ⌜ r ≡ decided (layout-checks true 0 0 (drop at (bits-of (now (body .entry))))) ⌝ }
 {
     match records::left_behind(body, at) {
         Rest::ByteLeft => Answer::Refused(Refusal::Records),
@@ -108,16 +180,17 @@ fn check_fill(body: &[u8], at: usize) -> Answer
     }
 }
 
-// The records from `at` on, task by task, and the fill.
-fn read_records(body: &[u8], start: usize, policy: u32, count: u32) -> Reading
+// The records from `start` on, task by task, and the fill.
+fn read_records(body: &[u8], start: usize, version: u32, policy: u32, count: u32) -> Reading
     requires { ⌜ (count ≤ most-tasks) × (length (now body) ≤ greatest-size) ⌝ }
-    ensures { λ r. ⌜ r ≡ records-reading policy count (drop start (bits-of (now (body .entry)))) ⌝ }
+    ensures { λ r. ⌜ r ≡ records-reading version policy count (drop start (bits-of (now (body .entry)))) ⌝ }
 {
+    let own = Sheet::own_deadlines(version);
     let mut tasks = [Task::blank(); Sheet::TASK_ROOM];
     let mut at = start;
     let mut i: u32 = 0;
     while i < count {
-        let found = read_record(body, at, i);
+        let found = read_record(body, at, own, i);
         let answer = found.answer;
         if let Answer::Refused(why) = answer {
             return refused(why);
@@ -131,6 +204,7 @@ fn read_records(body: &[u8], start: usize, policy: u32, count: u32) -> Reading
         Answer::Refused(why) => refused(why),
         Answer::Admitted => Reading {
             answer: Answer::Admitted,
+            version,
             set: TaskSet {
                 policy,
                 task_count: count,
@@ -141,16 +215,17 @@ fn read_records(body: &[u8], start: usize, policy: u32, count: u32) -> Reading
 }
 
 // The bytes before the check word, up to and without the rules of the tasks themselves. A sheet of the least size has its header.
-fn read_body(body: &[u8]) -> Reading
+fn read_body(body: &[u8], least: u32, most: u32) -> Reading
     requires { ⌜ (total header-widths ≤ 8 * length (now body)) × (length (now body) ≤ greatest-size) ⌝ }
-    ensures { λ r. ⌜ r ≡ body-reading (bits-of (now (body .entry))) ⌝ }
+    ensures { λ r. ⌜ r ≡ body-reading least most (bits-of (now (body .entry))) ⌝ }
 {
     let mut header = [0u32; Sheet::HEADER_FIELDS];
     let widths = Sheet::header_widths();
     let Row::EndsAt(start) = records::take_row(body, 0, &widths, &mut header) else {
         return refused(Refusal::Records);
     };
-    if header[Sheet::VERSION_FIELD] != Sheet::VERSION {
+    let version = header[Sheet::VERSION_FIELD];
+    if !sheet::version_among(least, most, version) {
         return refused(Refusal::Version);
     }
     let policy = header[Sheet::POLICY_FIELD];
@@ -164,26 +239,33 @@ fn read_body(body: &[u8]) -> Reading
     if sheet::miscounted(count, Sheet::MOST_TASKS) {
         return refused(Refusal::TaskCount);
     }
-    read_records(body, start, policy, count)
+    read_records(body, start, version, policy, count)
 }
 
-// What a byte string carries, judged: the set with the shapes of its tasks, or the one refusal.
-pub fn admit_sheet(bytes: &[u8]) -> Judged
-    ensures { λ r. ⌜ r ≡ sheet-judged (now (bytes .entry)) ⌝ }
+// A byte string up to and without the rules of the tasks themselves, for a reader of the versions `least` to `most`.
+fn read_bytes(bytes: &[u8], least: u32, most: u32) -> Reading
+    ensures { λ r. ⌜ r ≡ bytes-reading least most (now (bytes .entry)) ⌝ }
 {
     let n = bytes.len();
     if n < Sheet::LEAST_SIZE {
-        return admission::refused(Refusal::Length);
+        return refused(Refusal::Length);
     }
     if Sheet::GREATEST_SIZE < n {
-        return admission::refused(Refusal::Length);
+        return refused(Refusal::Length);
     }
     let sealed = check_word::sealed(bytes);
     if !sealed {
-        return admission::refused(Refusal::CheckWord);
+        return refused(Refusal::CheckWord);
     }
     let end = n - check_word::SIZE;
-    let found = read_body(&bytes[..end]);
+    read_body(&bytes[..end], least, most)
+}
+
+// What a byte string of either version carries, judged: the set with the shapes of its tasks, or the one refusal.
+pub fn admit_sheet(bytes: &[u8]) -> Judged
+    ensures { λ r. ⌜ r ≡ sheet-judged (now (bytes .entry)) ⌝ }
+{
+    let found = read_bytes(bytes, Sheet::VERSION_1, Sheet::VERSION_2);
     let answer = found.answer;
     match answer {
         Answer::Refused(why) => admission::refused(why),
@@ -191,12 +273,31 @@ pub fn admit_sheet(bytes: &[u8]) -> Judged
     }
 }
 
-// What a byte string carries, or the one refusal.
+// What a byte string of a version from `least` to `most` carries, or the one refusal.
+pub fn read_among(bytes: &[u8], least: u32, most: u32) -> Reading
+    ensures { λ r. ⌜ r ≡ reading-among least most (now (bytes .entry)) ⌝ }
+{
+    let found = read_bytes(bytes, least, most);
+    let answer = found.answer;
+    if let Answer::Refused(why) = answer {
+        return refused(why);
+    }
+    let set = found.set;
+    let judged = admission::judge_tasks(set);
+    let on_tasks = judged.answer;
+    match on_tasks {
+        Answer::Refused(why) => refused(why),
+        Answer::Admitted => Reading {
+            answer: Answer::Admitted,
+            version: found.version,
+            set,
+        },
+    }
+}
+
+// What a byte string of either version carries, or the one refusal.
 pub fn read_sheet(bytes: &[u8]) -> Reading
     ensures { λ r. ⌜ r ≡ reading (now (bytes .entry)) ⌝ }
 {
-    let judged = admit_sheet(bytes);
-    let answer = judged.answer;
-    let set = judged.set;
-    Reading { answer, set }
+    read_among(bytes, Sheet::VERSION_1, Sheet::VERSION_2)
 }

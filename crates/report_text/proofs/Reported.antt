@@ -14,7 +14,7 @@ use Rattle.theory.specs.Tasks.{Task, task-at, frame-count, Admitted as IsAdmitt
 use Rattle.theory.specs.Analysis.{Verdict, holds, missed, verdict, passes}
 use Rattle.sheet.specs.Constants.{most-frames, least-size, greatest-size}
 use Rattle.sheet.specs.Admission.{decided}
-use Rattle.sheet.specs.Reading.{sheet-checks, policy-of, tasks-of}
+use Rattle.sheet.specs.Reading.{checks-among, sheet-checks, policy-of, tasks-of}
 use Rattle.sheet.specs.declared.Answer.{Answer}
 use Rattle.sheet.specs.declared.Answer.the-variants.{Admitted}
 use Rattle.sheet.specs.declared.Answer.the-variants.{Refused as refused}
@@ -149,7 +149,7 @@ module _ (s : List ℕ) where
 -- ---- one byte more than the greatest sheet has
 
 length-refused : (s : List ℕ) → greatest-size < length s → decided (sheet-checks s) ≡ refused Length
-unfolding sheet-checks
+unfolding sheet-checks checks-among
 length-refused s h = applies (not (leb least-size (length s) && leb (length s) greatest-size)) Length _ (go (leb least-size (length s)))
   where
     go : (b : Bool) → not (b && leb (length s) greatest-size) ≡ true

@@ -2,8 +2,8 @@
 use mathlib.Core.Bool.{Bool, true, false, _&&_, cond}
 use mathlib.Core.List.{List}
 use mathlib.Core.Path.{_≡_, refl, sym, ap, ap₂, _∙_}
-use Prim.Native.Nat.{ℕ, zero, suc, _+_, _-_, _*_, _^_, _≤_, _<_}
-use native.Mathlib.Nat.{suc-mul}
+use Prim.Native.Nat.{ℕ, zero, suc, min, _+_, _-_, _*_, _^_, _≤_, _<_}
+use native.Mathlib.Nat.{suc-mul, min-eq-left, min-le-right}
 use native.Mathlib.Omega.{arith}
 use borrow.Author.Tests.{le-leb}
 use lib.ListN.{length, getD, take, drop, replicate, length-replicate}
@@ -20,7 +20,7 @@ use Rattle.records.proofs.Parts.{laid-whole, take-replicate}
 use Rattle.sheet.specs.Constants.{most-tasks}
 use Rattle.plays.specs.Script.{no-entry}
 use Rattle.scripts.specs.Format.{first-frame-widths, entry-widths, script-width}
-use Rattle.scripts.specs.Reading.{firsts-in, entry-count-in, entry-with, entry-at-start, entries-in, script-in, there, entry-count, entry-at, well-made}
+use Rattle.scripts.specs.Reading.{firsts-in, entry-count-in, entry-with, entry-at-start, entries-in, script-in, there, first-frames, entry-count, entry-at, well-made}
 use Rattle.scripts.proofs.Widths.{firsts-width, entry-width, width-is, width-more, width-at, body-length, body-bits}
 use Rattle.scripts.proofs.Made.{made, count-small}
 
@@ -120,14 +120,19 @@ module _ (n : ℕ) (s : List ℕ) where
   all-lawful zero = refl
   all-lawful (suc m) = all-lawful m
 
-  pub firsts-taken : n ≤ most-tasks → well-made n s ≡ true → (end : ℕ) (ws slots : List ℕ) → end ≡ length s - 2 → ws ≡ first-frame-widths most-tasks
-      → slots ≡ taken-row (take end s) 0 (take n ws) (replicate most-tasks 0) → slots ≡ laid (firsts-in n (bits-of (body s))) (replicate most-tasks 0)
-  unfolding taken-row row-has-slots row-there firsts-in body
-  firsts-taken few w end ws slots e v g =
-      let widths : take n ws ≡ first-frame-widths n = ap (take n) v ∙ take-replicate n most-tasks 4 few in
+  pub firsts-taken : (end count : ℕ) (ws : List ℕ) → end ≡ length s - 2 → count ≡ min n most-tasks → ws ≡ first-frame-widths most-tasks
+      → taken-row (take end s) 0 (take count ws) (replicate most-tasks 0) ≡ first-frames n s
+  unfolding first-frames body
+  firsts-taken end count ws e c v =
+      let widths : take count ws ≡ first-frame-widths (min n most-tasks) = ap₂ take c v ∙ take-replicate (min n most-tasks) most-tasks 4 (min-le-right n most-tasks) in
+      ap₂ (λ (k : ℕ) (us : List ℕ). taken-row (take k s) 0 us (replicate most-tasks 0)) e widths
+
+  -- of a script they are its first frames
+  pub firsts-there : n ≤ most-tasks → well-made n s ≡ true → first-frames n s ≡ laid (firsts-in n (bits-of (body s))) (replicate most-tasks 0)
+  unfolding first-frames taken-row row-has-slots row-there firsts-in
+  firsts-there few w =
       let inside : 4 * n ≤ 8 * length (body s) = omega (arith, made s n w .size, body-length s, width-is n (entry-count-in n (bits-of (body s)))) in
-      g
-      ∙ ap₂ (λ (k : ℕ) (us : List ℕ). taken-row (take k s) 0 us (replicate most-tasks 0)) e widths
+      ap (λ (k : ℕ). taken-row (body s) 0 (first-frame-widths k) (replicate most-tasks 0)) (min-eq-left few)
       ∙ ap (λ (b : Bool). cond b (laid (firsts-in n (bits-of (body s))) (replicate most-tasks 0)) (replicate most-tasks 0))
       (ap₂ _&&_
       (ap₂ _&&_ (all-lawful n) (le-leb (0 + total (first-frame-widths n)) (end-of (length (body s))) (omega (arith, firsts-width n))))

@@ -20,7 +20,7 @@ use Rattle.scripts.specs.declared.Judgement.the-variants.{Sound, Malform
 
 -- frames 2 and 1 every 4 ticks with Q 1, and one frame 3 every 8 ticks
 abbrev pub two-tasks : List Task
-two-tasks = record { period = 4; deadline = 4; lock = 1; frames = 2 ∷ 1 ∷ [] } ∷ record { period = 8; deadline = 8; lock = 0; frames = 3 ∷ [] } ∷ []
+two-tasks = record { period = 4; lock = 1; frames = 2 ∷ 1 ∷ []; deadlines = 4 ∷ 4 ∷ [] } ∷ record { period = 8; lock = 0; frames = 3 ∷ []; deadlines = 8 ∷ [] } ∷ []
 
 abbrev entry : ℕ → ℕ → ℕ → ℕ → Entry
 entry task tick work lock = record { task = task; tick = tick; work = work; lock = lock }

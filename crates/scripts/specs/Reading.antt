@@ -1,13 +1,15 @@
 -- SCOPE.md, "Run scripts": what a byte string says as a script of n tasks, and whether it is made as a script is.
 use mathlib.Core.Bool.{Bool, not, _&&_, cond}
 use mathlib.Core.List.{List, [], _∷_}
-use Prim.Native.Nat.{ℕ, zero, suc}
+use Prim.Native.Nat.{ℕ, zero, suc, min}
 use lib.Dec.{leb, eqb}
-use lib.ListN.{length, getD, drop}
+use lib.ListN.{length, getD, drop, replicate}
 use Rattle.bits.specs.Packed.{bits-of}
 use Rattle.check_word.specs.Division.{body, sealed}
 use Rattle.records.specs.Rows.{unpacked, total}
+use Rattle.records.specs.Faces.{taken-row}
 use Rattle.records.specs.Sealed.{sealed-size, some-set}
+use Rattle.sheet.specs.Constants.{most-tasks}
 use Rattle.plays.specs.Script.{Script, no-entry}
 use Rattle.plays.specs.declared.Entry.{Entry}
 use Rattle.scripts.specs.Format.{first-frame-widths, count-widths, entry-widths, task-field, tick-field, work-field, lock-field, script-width}
@@ -42,6 +44,10 @@ script-in n s =
 -- the bits of n first frames, the count and m entries are there
 unfoldable pub there : ℕ → ℕ → List ℕ → Bool
 there n m s = leb (script-width n m) (length (bits-of (body s)))
+
+-- the first frames in the slots of a set, for no more tasks than it has slots; 0 where their bits are not there
+unfoldable pub first-frames : ℕ → List ℕ → List ℕ
+first-frames n s = taken-row (body s) 0 (first-frame-widths (min n most-tasks)) (replicate most-tasks 0)
 
 -- how many entries there are; none where the count is not there
 unfoldable pub entry-count : ℕ → List ℕ → ℕ

@@ -4,12 +4,10 @@ ghost use mathlib.Core.List.{map};
 ghost use mathlib.Core.Option.{none};
 ghost use mathlib.Core.Path.{_≡_};
 ghost use Prim.Native.Nat.{_-_, _≤_, _<_};
-ghost use lib.ListN.{take, replicate};
-ghost use Rattle.bits.specs.Packed.{bits-of};
+ghost use lib.ListN.{take};
 ghost use Rattle.bits.specs.Faces.{taken};
 ghost use Rattle.check_word.specs.Division.{word-size, body};
 ghost use Rattle.lent.specs.Checks.{first-refusal};
-ghost use Rattle.lent.specs.Lent.{laid};
 ghost use Rattle.records.specs.Rows.{total};
 ghost use Rattle.records.specs.Sealed.{sealed-size};
 ghost use Rattle.theory.specs.Tasks.{frame-count, frame};
@@ -17,7 +15,7 @@ ghost use Rattle.sheet.specs.Constants.{most-tasks};
 ghost use Rattle.sheet.specs.Tasks.{task-in, records-of};
 ghost use Rattle.plays.specs.Items.{standing, first-ledger, first-frame-checks, entry-checks};
 ghost use Rattle.scripts.specs.Format.{first-frame-widths, count-widths, entry-widths, entry-count-width, script-width};
-ghost use Rattle.scripts.specs.Reading.{firsts-in, script-in, entry-count, entry-at, well-made};
+ghost use Rattle.scripts.specs.Reading.{script-in, first-frames, entry-count, entry-at, well-made};
 ghost use Rattle.scripts.specs.Writing.{entry-numbers};
 ghost use Rattle.scripts.specs.Judging.{judged, judgement};
 ghost use Rattle.scripts.specs.Inside.Steps.{sound-turn, turn-after};
@@ -183,15 +181,14 @@ fn well_made(script: &[u8], tasks: u32) -> bool
     }
 }
 
-// The first frames of a script; 0 in the slots past them.
-fn first_frames(script: &[u8], tasks: u32) -> [u32; Sheet::TASK_ROOM]
-    requires { ⌜ (tasks ≤ most-tasks) × (well-made tasks (now script) ≡ true) ⌝ }
-    ensures { λ r. ⌜ r ≡ laid (firsts-in tasks (bits-of (body (now (script .entry))))) (replicate most-tasks 0) ⌝ }
+// The first frames of a script of so many tasks, of no more than there are slots for; 0 where they are not there.
+pub fn first_frames(script: &[u8], tasks: u32) -> [u32; Sheet::TASK_ROOM]
+    ensures { λ r. ⌜ r ≡ first-frames tasks (now (script .entry)) ⌝ }
 {
     let mut firsts = [0u32; Sheet::TASK_ROOM];
     let widths = Format::first_frame_widths();
     let end = body_size(script.len());
-    let in_use = tasks as usize;
+    let in_use = sheet::in_use(tasks as usize, Sheet::TASK_ROOM);
     records::take_row(&script[..end], 0, &widths[..in_use], &mut firsts);
     firsts
 }

@@ -1,9 +1,12 @@
 -- The theorems are in RoundTrip, Changes, TurnedAway, Sizes, Determined and Analysable; the rest stands below these.
 pub mod Checks
 pub mod Filled
+pub mod Each
 pub mod Records
+pub mod Shortest
 pub mod Counts
 pub mod Rounds
+pub mod Turns
 pub mod Lawful
 pub mod InFields
 pub mod RecordBits

@@ -15,13 +15,16 @@ use Rattle.theory.proofs.Laws.{monotonic-test}
 use Rattle.theory.proofs.Search.{bool-cases}
 use Rattle.theory.proofs.Tests.{refused}
 use Rattle.lent.proofs.Checks.{Each, each-append}
+use Rattle.sheet.specs.Constants.{version-1, version-2}
+use Rattle.sheet.specs.Fields.{own-deadlines}
 use Rattle.sheet.specs.Tasks.{task-in}
 use Rattle.sheet.specs.Layout.{header-in, behind-header, record-width, tasks-in}
 use Rattle.sheet.specs.Admission.{monotonic, reason-of, policy-check, task-count-check, frame-count-check, frame-count-checks, task-checks, list-checks}
-use Rattle.sheet.specs.Reading.{layout-checks, sheet-checks, tasks-of}
+use Rattle.sheet.specs.Reading.{layout-checks, checks-among, sheet-checks, version-of, tasks-of}
+use Rattle.sheet.specs.Writing.{version-check, deadlines-check, writing-checks}
 use Rattle.sheet.specs.declared.Task.{Task as Record}
 use Rattle.sheet.specs.declared.Refusal.{Refusal}
-use Rattle.sheet.specs.declared.Refusal.the-variants.{Length, CheckWord, Version, Policy, BitSet, TaskCount, FrameCount, Records, IllFormed, Lock, NotMonotonic}
+use Rattle.sheet.specs.declared.Refusal.the-variants.{Length, CheckWord, Version, Policy, BitSet, TaskCount, FrameCount, Records, IllFormed, Lock, NotMonotonic, Deadlines}
 use Rattle.sheet.proofs.Checks.{admits}
 use Rattle.sheet.proofs.InFields.{task-more, each-map, FewFrames}
 use Rattle.sheet.proofs.InFields.{Each as EachTask}
@@ -57,14 +60,14 @@ module _ {P : Refusal → Type 0} {tasks : List Task} (c : Covers P tasks) where
   frames-each i [] h = tt
   frames-each i (r ∷ rs) h = (λ _. c .of-frame-count i (omega arith), λ _. frames-each (suc i) rs (omega arith))
 
-  layout-each : (i n : ℕ) (bits : List Bool) → i + n ≤ length tasks → Each P (layout-checks i n bits)
+  layout-each : (own : Bool) (i n : ℕ) (bits : List Bool) → i + n ≤ length tasks → Each P (layout-checks own i n bits)
   unfolding layout-checks frame-count-check
-  layout-each i zero bits h = (λ _. c .of-records, λ _. (λ _. c .of-bit-set, λ _. tt))
-  layout-each i (suc n) bits h = (
+  layout-each own i zero bits h = (λ _. c .of-records, λ _. (λ _. c .of-bit-set, λ _. tt))
+  layout-each own i (suc n) bits h = (
     λ _. c .of-records,
     λ _. (
       λ _. c .of-frame-count i (omega arith),
-      λ _. (λ _. c .of-records, λ _. layout-each (suc i) n (drop (record-width bits) bits) (omega arith)),
+      λ _. (λ _. c .of-records, λ _. layout-each own (suc i) n (drop (record-width own bits) bits) (omega arith)),
     ),
   )
 
@@ -106,12 +109,13 @@ list-each {P} policy n rs c =
     )
 
 -- the order for a sheet
-pub sheet-each : {P : Refusal → Type 0} (s : List ℕ) → Covers P (tasks-of s) → Each P (sheet-checks s)
-unfolding sheet-checks policy-check task-count-check tasks-of
-sheet-each {P} s c =
+pub each-among : {P : Refusal → Type 0} (least most : ℕ) (s : List ℕ) → Covers P (tasks-of s) → Each P (checks-among least most s)
+unfolding checks-among policy-check task-count-check version-of tasks-of
+each-among {P} least most s c =
     let bits = behind-header (bits-of (body s)) in
     let n = header-in (bits-of (body s)) .task-count in
-    let laid = layout-checks 0 n bits in (
+    let own = own-deadlines (version-of s) in
+    let laid = layout-checks own 0 n bits in (
       λ _. c .of-length,
       λ _. (
         λ _. c .of-check-word,
@@ -124,11 +128,21 @@ sheet-each {P} s c =
               λ _. (
                 λ _. c .of-task-count,
                 λ _.
-                    each-append P laid (task-checks 0 (tasks-in n bits)) (layout-each c 0 n bits (omega (arith, length-tasks-in n bits)))
-                    (λ e. tasks-each c (each-map (λ t h. h .1) (layout-read 0 n bits (admits laid e) .counted))),
+                    each-append P laid (task-checks 0 (tasks-in own n bits)) (layout-each c own 0 n bits (omega (arith, length-tasks-in own n bits)))
+                    (λ e. tasks-each c (each-map (λ t h. h .1) (layout-read own 0 n bits (admits laid e) .counted))),
               ),
             ),
           ),
         ),
       ),
     )
+
+pub sheet-each : {P : Refusal → Type 0} (s : List ℕ) → Covers P (tasks-of s) → Each P (sheet-checks s)
+unfolding sheet-checks
+sheet-each s c = each-among version-1 version-2 s c
+
+-- the order for a list that is written: 17 behind it
+pub writing-each : {P : Refusal → Type 0} (version policy n : ℕ) (rs : List Record) → P Deadlines → Covers P (map task-in rs) → Each P (writing-checks version policy n rs)
+unfolding writing-checks version-check deadlines-check
+writing-each {P} version policy n rs p c =
+    (λ _. c .of-version, λ _. each-append P (list-checks policy n rs) _ (list-each policy n rs c) (λ _. (λ _. p, λ _. tt)))

@@ -3,7 +3,7 @@ use Prim.Native.Nat.{_<_}
 use lib.Dec.{lit<}
 use Rattle.sheet.specs.Refusals.{number-of}
 use Rattle.sheet.specs.declared.Refusal.{Refusal}
-use Rattle.sheet.specs.declared.Refusal.the-variants.{Length, CheckWord, Version, Policy, BitSet, TaskCount, FrameCount, Records, IllFormed, Lock, NotMonotonic, Room}
+use Rattle.sheet.specs.declared.Refusal.the-variants.{Length, CheckWord, Version, Policy, BitSet, TaskCount, FrameCount, Records, IllFormed, Lock, NotMonotonic, Room, Deadlines}
 
 pub number-small : (r : Refusal) → number-of r < 32
 number-small Length = lit< tt
@@ -18,3 +18,4 @@ number-small (IllFormed i) = lit< tt
 number-small (Lock i) = lit< tt
 number-small (NotMonotonic i why) = lit< tt
 number-small Room = lit< tt
+number-small Deadlines = lit< tt

@@ -1,25 +1,27 @@
--- Lists that are turned away whichever task it is: of no task, with a deadline one above the period, with a lock one above the largest frame, with frames
+-- Lists that are turned away whichever task it is: of no task, with a deadline above the period or below its frame, with a lock one above the largest frame, with frames
 -- that have no start.
 use mathlib.Core.Bool.{Bool, true, false, not, _&&_, and-eq-true-iff, and-false}
 use mathlib.Core.List.{List, [], _∷_, _++_}
+use mathlib.Core.Logic.{_⊎_, inl, inr}
 use mathlib.Core.Path.{_≡_, refl, sym, ap, _∙_}
 use Prim.Native.Nat.{ℕ, suc, _+_, _≤_, _<_}
-use native.Mathlib.Nat.{zero-add, add-zero}
+use native.Mathlib.Nat.{zero-add, add-zero, not-le-of-lt}
 use native.Mathlib.Omega.{arith}
 use borrow.Author.Tests.{le-leb, lt-leb}
-use lib.Dec.{leb}
 use lib.ListN.{length, length-append}
-use Rattle.theory.specs.Tasks.{Task, largest, Monotonic}
+use Rattle.theory.specs.Tasks.{Task, frame-count, frame, deadline-of, largest, Monotonic}
+use Rattle.theory.proofs.Search.{bool-cases}
 use Rattle.sheet.specs.Constants.{most-tasks, greatest-time}
 use Rattle.sheet.specs.Tasks.{set-with}
 use Rattle.lent.specs.Checks.{Check, _⇒_}
-use Rattle.sheet.specs.Admission.{decided, all, in-range, well-formed, lock-fits, monotonic, reason-of, known-policy, policy-check, task-count-check, list-checks, task-checks, admission}
+use Rattle.sheet.specs.Admission.{decided, in-range, well-formed, lock-fits, monotonic, reason-of, known-policy, policy-check, task-count-check, list-checks, task-checks, admission}
 use Rattle.sheet.specs.declared.Answer.the-variants.{Admitted, Refused}
 use Rattle.sheet.specs.declared.Refusal.{Refusal}
 use Rattle.sheet.specs.declared.Refusal.the-variants.{TaskCount, IllFormed, Lock, NotMonotonic}
 use Rattle.sheet.proofs.Checks.{applies, admitted-first, passed-over}
 use Rattle.sheet.proofs.Counts.{policy-passes}
-use Rattle.sheet.proofs.InFields.{Each, FramesCounted, Ranged, range-of}
+use Rattle.sheet.proofs.InFields.{Each, FramesCounted, Ranged, range-of, frame-below, deadline-below}
+use Rattle.sheet.proofs.Records.{AsMany}
 use Rattle.sheet.proofs.Carried.{answer-of-tasks}
 use Rattle.sheet.proofs.Refused.{not-monotonic}
 
@@ -43,40 +45,56 @@ pub record Reaches (policy : ℕ) (us : List Task) (t : Task) (vs : List Task) :
   pub policy-known : known-policy policy ≡ true
   pub few-tasks : length (us ++ t ∷ vs) ≤ most-tasks
   pub counted : Each FramesCounted (us ++ t ∷ vs)
+  pub as-many : Each AsMany (us ++ t ∷ vs)
   pub before : decided (task-checks 0 us) ≡ Admitted
 
 reached : (policy : ℕ) (us : List Task) (t : Task) (vs : List Task) → Reaches policy us t vs
     → admission (set-with policy (us ++ t ∷ vs)) ≡ decided (task-checks (length us) (t ∷ vs))
 reached policy us t vs r =
-    answer-of-tasks policy (us ++ t ∷ vs) (r .policy-known) (rw (length-append us (t ∷ vs)) (omega arith)) (r .few-tasks) (r .counted)
+    answer-of-tasks policy (us ++ t ∷ vs) (r .as-many) (r .policy-known) (rw (length-append us (t ∷ vs)) (omega arith)) (r .few-tasks) (r .counted)
     ∙ ap decided (checks-behind 0 us (t ∷ vs))
     ∙ admitted-first (task-checks 0 us) (task-checks (0 + length us) (t ∷ vs)) (r .before)
     ∙ ap (λ (n : ℕ). decided (task-checks n (t ∷ vs))) (zero-add (length us))
 
-late : (t : Task) → t .deadline ≡ t .period + 1 → well-formed t ≡ false
-unfolding well-formed
-late t e =
-    ap (λ (b : Bool). all (λ c. leb c (t .deadline)) (t .frames) && b) (lt-leb (t .deadline) (t .period) (omega arith))
-    ∙ and-false (all (λ c. leb c (t .deadline)) (t .frames))
-
--- A task whose deadline is one above its period gives 9.
-pub late-deadline-is-9 : (policy : ℕ) (us : List Task) (t : Task) (vs : List Task) → Reaches policy us t vs → t .deadline ≡ t .period + 1
+-- a task that is not well formed gives 9
+ill-formed : (policy : ℕ) (us : List Task) (t : Task) (vs : List Task) → Reaches policy us t vs → well-formed t ≡ false
     → admission (set-with policy (us ++ t ∷ vs)) ≡ Refused (IllFormed (length us))
 unfolding task-checks
-late-deadline-is-9 policy us t vs r e =
+ill-formed policy us t vs r e =
     reached policy us t vs r
     ∙ applies (not (in-range t && well-formed t)) (IllFormed (length us)) _
-    (ap not (ap (λ (b : Bool). in-range t && b) (late t e) ∙ and-false (in-range t)))
+    (ap not (ap (λ (b : Bool). in-range t && b) e ∙ and-false (in-range t)))
+
+not-formed : (t : Task) → (well-formed t ≡ true → ⊥) → well-formed t ≡ false
+not-formed t no-one = go (bool-cases (well-formed t))
+  where
+    go : (well-formed t ≡ true) ⊎ (well-formed t ≡ false) → well-formed t ≡ false
+    go (inl e) = absurd (no-one e)
+    go (inr e) = e
+
+-- A task of which a frame has a deadline above its period gives 9.
+pub late-deadline-is-9 : (policy : ℕ) (us : List Task) (t : Task) (vs : List Task) → Reaches policy us t vs
+    → (k : ℕ) → k < frame-count t → t .period < deadline-of t k
+    → admission (set-with policy (us ++ t ∷ vs)) ≡ Refused (IllFormed (length us))
+late-deadline-is-9 policy us t vs r k k-in late =
+    ill-formed policy us t vs r (not-formed t (λ e. not-le-of-lt late (deadline-below t e k k-in)))
+
+-- A task of which a frame has a deadline below its time gives 9.
+pub short-deadline-is-9 : (policy : ℕ) (us : List Task) (t : Task) (vs : List Task) → Reaches policy us t vs
+    → (k : ℕ) → k < frame-count t → deadline-of t k < frame t k
+    → admission (set-with policy (us ++ t ∷ vs)) ≡ Refused (IllFormed (length us))
+short-deadline-is-9 policy us t vs r k k-in short =
+    ill-formed policy us t vs r (not-formed t (λ e. not-le-of-lt short (frame-below t e k k-in)))
 
 -- the task with another lock
 abbrev pub with-lock : Task → ℕ → Task
-with-lock t q = record { period = t .period; deadline = t .deadline; lock = q; frames = t .frames }
+with-lock t q = record { period = t .period; lock = q; frames = t .frames; deadlines = t .deadlines }
 
 lock-in-range : (t : Task) (q : ℕ) → in-range t ≡ true → q ≤ greatest-time → in-range (with-lock t q) ≡ true
 lock-in-range t q e h =
     let r : Ranged t = range-of t .0 e in
     range-of (with-lock t q) .1
-    (record { period-time = r .period-time; deadline-time = r .deadline-time; lock-time = le-leb q greatest-time h; frame-times = r .frame-times })
+    (record { period-time = r .period-time; lock-time = le-leb q greatest-time h; frame-times = r .frame-times; deadline-times = r .deadline-times })
 
 -- A task in range and well formed whose lock is one above its largest frame, and still in range, gives 10.
 pub lock-above-largest-is-10 : (policy : ℕ) (us : List Task) (t : Task) (vs : List Task) → Reaches policy us (with-lock t (largest (t .frames) + 1)) vs

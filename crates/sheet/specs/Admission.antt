@@ -1,5 +1,5 @@
 -- What is turned away of a task and of a list (SCOPE.md, "What is turned away"): rows of checks, of which the first that applies decides.
-use mathlib.Core.Bool.{Bool, true, not, _&&_, _||_}
+use mathlib.Core.Bool.{Bool, true, false, not, _&&_, _||_}
 use mathlib.Core.List.{List, [], _∷_, _++_, map}
 use mathlib.Core.Option.{Option, none, some}
 use Prim.Native.Nat.{ℕ, suc}
@@ -36,11 +36,18 @@ unfoldable pub is-time : ℕ → Bool
 is-time n = leb 1 n && leb n greatest-time
 
 unfoldable pub in-range : Task → Bool
-in-range t = is-time (t .period) && is-time (t .deadline) && leb (t .lock) greatest-time && all is-time (t .frames)
+in-range t = is-time (t .period) && leb (t .lock) greatest-time && all is-time (t .frames) && all is-time (t .deadlines)
 
--- no frame time exceeds the deadline, and the deadline not the period
+-- no number of a list exceeds the one at its place in another, and both are as long
+unfoldable pub none-above : List ℕ → List ℕ → Bool
+none-above [] [] = true
+none-above [] (d ∷ ds) = false
+none-above (c ∷ cs) [] = false
+none-above (c ∷ cs) (d ∷ ds) = leb c d && none-above cs ds
+
+-- each frame has a deadline; no frame time exceeds it, and no deadline the period
 unfoldable pub well-formed : Task → Bool
-well-formed t = all (λ c. leb c (t .deadline)) (t .frames) && leb (t .deadline) (t .period)
+well-formed t = none-above (t .frames) (t .deadlines) && all (λ d. leb d (t .period)) (t .deadlines)
 
 -- the lock does not exceed the largest frame time
 unfoldable pub lock-fits : Task → Bool

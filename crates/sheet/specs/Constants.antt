@@ -1,7 +1,7 @@
 -- The widths, limits and policy numbers of the sheet, each by name and once.
 use Prim.Native.Nat.{ℕ}
 
--- the fields of the header, in bits, and the version
+-- the fields of the header, in bits
 abbrev pub version-width : ℕ
 version-width = 4
 
@@ -14,8 +14,12 @@ task-count-width = 5
 abbrev pub spare-width : ℕ
 spare-width = 5
 
-abbrev pub the-version : ℕ
-the-version = 1
+-- the versions: one deadline for all frames of a task, and a deadline for each frame
+abbrev pub version-1 : ℕ
+version-1 = 1
+
+abbrev pub version-2 : ℕ
+version-2 = 2
 
 -- the fields of a task, in bits: every time has the same width
 abbrev pub time-width : ℕ
@@ -30,6 +34,10 @@ most-tasks = 16
 
 abbrev pub most-frames : ℕ
 most-frames = 8
+
+-- the most fields that the fixed part of a task has
+abbrev pub fixed-room : ℕ
+fixed-room = 4
 
 -- the greatest period, deadline, lock and frame time
 abbrev pub greatest-time : ℕ
@@ -50,4 +58,4 @@ abbrev pub least-size : ℕ
 least-size = 15
 
 abbrev pub greatest-size : ℕ
-greatest-size = 452
+greatest-size = 732

@@ -1,8 +1,8 @@
 -- Where the fields of a sheet lie, read from its bits: header, task records one after another, fill.
-use mathlib.Core.Bool.{Bool}
+use mathlib.Core.Bool.{Bool, true, false}
 use mathlib.Core.List.{List, [], _∷_}
 use Prim.Native.Nat.{ℕ, zero, suc, _+_}
-use lib.ListN.{getD, drop}
+use lib.ListN.{length, getD, drop, replicate}
 use Rattle.theory.specs.Tasks.{Task}
 use Rattle.records.specs.Rows.{unpacked, total}
 use Rattle.sheet.specs.Fields.{header-widths, version-field, policy-field, task-count-field, spare-field}
@@ -26,25 +26,37 @@ unfoldable pub behind-header : List Bool → List Bool
 behind-header bits = drop (total header-widths) bits
 
 -- the frame count of the task record at the start of the bits
-unfoldable pub frame-count-in : List Bool → ℕ
-frame-count-in bits = getD (unpacked fixed-widths bits) frame-count-field 0
+unfoldable pub frame-count-in : Bool → List Bool → ℕ
+frame-count-in own bits = getD (unpacked (fixed-widths own) bits) (frame-count-field own) 0
 
 -- how many bits that record takes
-unfoldable pub record-width : List Bool → ℕ
-record-width bits = total fixed-widths + total (frame-widths (frame-count-in bits))
+unfoldable pub record-width : Bool → List Bool → ℕ
+record-width own bits = total (fixed-widths own) + total (frame-widths own (frame-count-in own bits))
 
--- the task of that record
-unfoldable pub task-at-start : List Bool → Task
-task-at-start bits =
-    let f = unpacked fixed-widths bits in
-    record {
-      period = getD f period-field 0;
-      deadline = getD f deadline-field 0;
-      lock = getD f lock-field 0;
-      frames = unpacked (frame-widths (frame-count-in bits)) (drop (total fixed-widths) bits);
-    }
+-- of numbers that stand by turns, the first of each two and the second of each two
+unfoldable pub firsts : List ℕ → List ℕ
+firsts [] = []
+firsts (a ∷ []) = []
+firsts (a ∷ b ∷ ns) = a ∷ firsts ns
+
+unfoldable pub seconds : List ℕ → List ℕ
+seconds [] = []
+seconds (a ∷ []) = []
+seconds (a ∷ b ∷ ns) = b ∷ seconds ns
+
+-- the task of the numbers in a record's fixed part and in its frames: every frame has the one deadline; or times and deadlines stand by turns
+unfoldable pub task-from : Bool → List ℕ → List ℕ → Task
+task-from false fixed row =
+    record { period = getD fixed period-field 0; lock = getD fixed (lock-field false) 0; frames = row; deadlines = replicate (length row) (getD fixed deadline-field 0) }
+task-from true fixed row =
+    record { period = getD fixed period-field 0; lock = getD fixed (lock-field true) 0; frames = firsts row; deadlines = seconds row }
+
+-- the task of the record at the start of the bits
+unfoldable pub task-at-start : Bool → List Bool → Task
+task-at-start own bits =
+    task-from own (unpacked (fixed-widths own) bits) (unpacked (frame-widths own (frame-count-in own bits)) (drop (total (fixed-widths own)) bits))
 
 -- n tasks, one record behind the other
-unfoldable pub tasks-in : ℕ → List Bool → List Task
-tasks-in zero bits = []
-tasks-in (suc n) bits = task-at-start bits ∷ tasks-in n (drop (record-width bits) bits)
+unfoldable pub tasks-in : Bool → ℕ → List Bool → List Task
+tasks-in own zero bits = []
+tasks-in own (suc n) bits = task-at-start own bits ∷ tasks-in own n (drop (record-width own bits) bits)

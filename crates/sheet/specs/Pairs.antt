@@ -18,7 +18,8 @@ the-widths =
 abbrev pub the-limits : Limits
 the-limits =
     record {
-      version = Constants.the-version;
+      «version_1» = Constants.version-1;
+      «version_2» = Constants.version-2;
       tasks = Constants.most-tasks;
       frames = Constants.most-frames;
       time = Constants.greatest-time;

@@ -2,7 +2,7 @@
 use Prim.Native.Nat.{ℕ}
 use Rattle.sheet.specs.declared.Reason.{Reason}
 use Rattle.sheet.specs.declared.Refusal.{Refusal}
-use Rattle.sheet.specs.declared.Refusal.the-variants.{Length, CheckWord, Version, Policy, BitSet, TaskCount, FrameCount, Records, IllFormed, Lock, NotMonotonic, Room}
+use Rattle.sheet.specs.declared.Refusal.the-variants.{Length, CheckWord, Version, Policy, BitSet, TaskCount, FrameCount, Records, IllFormed, Lock, NotMonotonic, Room, Deadlines}
 
 abbrev pub number-of : Refusal → ℕ
 number-of Length = 1
@@ -17,6 +17,7 @@ number-of (IllFormed i) = 9
 number-of (Lock i) = 10
 number-of (NotMonotonic i why) = 11
 number-of Room = 12
+number-of Deadlines = 17
 
 -- the task that a refusal names: for 7, 9, 10 and 11; 0 for the others
 abbrev pub task-of-refusal : Refusal → ℕ
@@ -32,6 +33,7 @@ task-of-refusal (IllFormed i) = i
 task-of-refusal (Lock i) = i
 task-of-refusal (NotMonotonic i why) = i
 task-of-refusal Room = 0
+task-of-refusal Deadlines = 0
 
 -- where there is no reason to give
 abbrev pub no-reason : Reason
@@ -51,3 +53,4 @@ reason-of-refusal (IllFormed i) = no-reason
 reason-of-refusal (Lock i) = no-reason
 reason-of-refusal (NotMonotonic i why) = why
 reason-of-refusal Room = no-reason
+reason-of-refusal Deadlines = no-reason

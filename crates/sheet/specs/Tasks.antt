@@ -9,28 +9,38 @@ use Rattle.sheet.specs.Constants.{most-tasks, most-frames}
 use Rattle.sheet.specs.declared.Task.{Task as Record}
 use Rattle.sheet.specs.declared.TaskSet.{TaskSet}
 
--- the task that a record holds: frame slots past its count are not read
+-- the task that a record holds: slots of frames and of deadlines past its count are not read
 unfoldable pub task-in : Record → Task
-task-in r = record { period = r .period; deadline = r .deadline; lock = r .lock; frames = take (r .«frame_count») (r .frames) }
+task-in r =
+    record {
+      period = r .period;
+      lock = r .lock;
+      frames = take (r .«frame_count») (r .frames);
+      deadlines = take (r .«frame_count») (r .deadlines);
+    }
 
--- the record of a task: frame slots past its count are 0
+-- eight slots for the numbers of a task's frames: those past its count are 0
+unfoldable pub in-slots : List ℕ → List ℕ
+in-slots ns = ns ++ replicate (most-frames - length ns) 0
+
+-- the record of a task
 unfoldable pub record-of : Task → Record
 record-of t =
     record {
       period = t .period;
-      deadline = t .deadline;
       lock = t .lock;
       «frame_count» = length (t .frames);
-      frames = t .frames ++ replicate (most-frames - length (t .frames)) 0;
+      frames = in-slots (t .frames);
+      deadlines = in-slots (t .deadlines);
     }
 
 -- a record of zeros
 unfoldable pub blank-record : Record
-blank-record = record { period = 0; deadline = 0; lock = 0; «frame_count» = 0; frames = replicate most-frames 0 }
+blank-record = record { period = 0; lock = 0; «frame_count» = 0; frames = replicate most-frames 0; deadlines = replicate most-frames 0 }
 
 -- what stands past the end of an array of records: nothing reads it
 abbrev pub no-record : Record
-no-record = record { period = 0; deadline = 0; lock = 0; «frame_count» = 0; frames = [] }
+no-record = record { period = 0; lock = 0; «frame_count» = 0; frames = []; deadlines = [] }
 
 -- the number that follows k in a round of n numbers: of k below n the remainder of suc k by n, as `next-frame` of the theory says
 unfoldable pub next-round : ℕ → ℕ → ℕ

@@ -1,22 +1,26 @@
 // The sheet: its constants, stated once, the task record, and the refusals by number.
 ghost use mathlib.Core.Path.{_≡_};
-ghost use Prim.Native.Nat.{min};
+ghost use mathlib.Core.Bool.{true};
+ghost use mathlib.Core.List.{_++_};
+ghost use Prim.Native.Nat.{_-_, min};
+ghost use lib.ListN.{length, replicate};
 ghost use Rattle.theory.specs.Tasks.{frame-count, deadline-of, shortest-deadline};
 ghost use Rattle.sheet.specs.Pairs.{the-widths, the-limits, the-policies};
-ghost use Rattle.sheet.specs.Constants.{most-frames};
-ghost use Rattle.sheet.specs.Fields.{header-widths, fixed-widths, frame-widths};
+ghost use Rattle.sheet.specs.Constants.{most-frames, fixed-room};
+ghost use Rattle.sheet.specs.Fields.{header-widths, own-deadlines, fixed-widths, lock-field, frame-count-field, frame-fields, frame-widths};
 ghost use Rattle.sheet.specs.Tasks.{task-in, blank-record, blank-set, next-round};
 ghost use Rattle.sheet.specs.Admission.{known-policy, miscounted};
+ghost use Rattle.sheet.specs.Reading.{version-among};
 ghost use Rattle.sheet.specs.Refusals.{number-of, task-of-refusal, no-reason, reason-of-refusal};
 
-// A task as the workbench holds it: slots of `frames` past `frame_count` are not read, and are 0 when a record is filled.
+// A task as the workbench holds it: slots of `frames` and of `deadlines` past `frame_count` are not read, and are 0 when a record is filled.
 #[repr(C)]
 pub struct Task {
     pub period: u32,
-    pub deadline: u32,
     pub lock: u32,
     pub frame_count: u32,
     pub frames: [u32; Sheet::FRAME_ROOM],
+    pub deadlines: [u32; Sheet::FRAME_ROOM],
 }
 
 // A set by value, what a sheet carries: the policy and, of sixteen records, the first `task_count`.
@@ -38,7 +42,8 @@ pub struct Widths {
 
 // What the sheet's numbers are held to.
 pub struct Limits {
-    pub version: u32,
+    pub version_1: u32,
+    pub version_2: u32,
     pub tasks: u32,
     pub frames: u32,
     pub time: u32,
@@ -68,7 +73,10 @@ impl Sheet {
 
     pub const FRAME_COUNT_WIDTH: usize = 4;
 
-    pub const VERSION: u32 = 1;
+    // One deadline for all frames of a task, and a deadline for each frame.
+    pub const VERSION_1: u32 = 1;
+
+    pub const VERSION_2: u32 = 2;
 
     pub const MOST_TASKS: u32 = 16;
 
@@ -79,10 +87,12 @@ impl Sheet {
 
     pub const FRAME_ROOM: usize = Sheet::MOST_FRAMES as usize;
 
-    // How many fields the header and the fixed part of a task have.
+    // How many fields the header has, and at most the fixed part of a task and all its frames.
     pub const HEADER_FIELDS: usize = 4;
 
-    pub const FIXED_FIELDS: usize = 4;
+    pub const FIXED_ROOM: usize = 4;
+
+    pub const FRAME_FIELDS_ROOM: usize = 2 * Sheet::FRAME_ROOM;
 
     // Where each field stands in the header.
     pub const VERSION_FIELD: usize = 0;
@@ -93,20 +103,16 @@ impl Sheet {
 
     pub const SPARE_FIELD: usize = 3;
 
-    // And in the fixed part of a task.
+    // And in the fixed part of a task, where they stand at the same place in both forms; the deadline is only in that of version 1.
     pub const PERIOD_FIELD: usize = 0;
 
     pub const DEADLINE_FIELD: usize = 1;
-
-    pub const LOCK_FIELD: usize = 2;
-
-    pub const FRAME_COUNT_FIELD: usize = 3;
 
     pub const GREATEST_TIME: u32 = 1_048_575;
 
     pub const LEAST_SIZE: usize = 15;
 
-    pub const GREATEST_SIZE: usize = 452;
+    pub const GREATEST_SIZE: usize = 732;
 
     pub const LISTED: u32 = 0;
 
@@ -132,7 +138,8 @@ impl Sheet {
         ensures { λ r. ⌜ r ≡ the-limits ⌝ }
     {
         Limits {
-            version: Sheet::VERSION,
+            version_1: Sheet::VERSION_1,
+            version_2: Sheet::VERSION_2,
             tasks: Sheet::MOST_TASKS,
             frames: Sheet::MOST_FRAMES,
             time: Sheet::GREATEST_TIME,
@@ -153,9 +160,18 @@ impl Sheet {
         ]
     }
 
-    pub fn fixed_widths() -> [usize; Sheet::FIXED_FIELDS]
-        ensures { λ r. ⌜ r ≡ fixed-widths ⌝ }
+    // Of a task record with a deadline of its own for each frame, or with one for all: unused room behind the widths is 0.
+    pub fn fixed_widths(own: bool) -> [usize; Sheet::FIXED_ROOM]
+        ensures { λ r. ⌜ r ≡ fixed-widths own ++ replicate (fixed-room - length (fixed-widths own)) 0 ⌝ }
     {
+        if own {
+            return [
+                Sheet::TIME_WIDTH,
+                Sheet::TIME_WIDTH,
+                Sheet::FRAME_COUNT_WIDTH,
+                0,
+            ];
+        }
         [
             Sheet::TIME_WIDTH,
             Sheet::TIME_WIDTH,
@@ -164,11 +180,57 @@ impl Sheet {
         ]
     }
 
-    // As many as a record has slots for.
-    pub fn frame_widths() -> [usize; Sheet::FRAME_ROOM]
-        ensures { λ r. ⌜ r ≡ frame-widths most-frames ⌝ }
+    // How many fields that part has.
+    pub fn fixed_fields(own: bool) -> usize
+        ensures { λ r. ⌜ r ≡ length (fixed-widths own) ⌝ }
     {
-        [Sheet::TIME_WIDTH; Sheet::FRAME_ROOM]
+        if own {
+            return 3;
+        }
+        4
+    }
+
+    // Where the lock stands in it, and the frame count.
+    pub fn lock_field(own: bool) -> usize
+        ensures { λ r. ⌜ r ≡ lock-field own ⌝ }
+    {
+        if own {
+            return 1;
+        }
+        2
+    }
+
+    pub fn frame_count_field(own: bool) -> usize
+        ensures { λ r. ⌜ r ≡ frame-count-field own ⌝ }
+    {
+        if own {
+            return 2;
+        }
+        3
+    }
+
+    // How many fields each frame has.
+    pub fn frame_fields(own: bool) -> usize
+        ensures { λ r. ⌜ r ≡ frame-fields own ⌝ }
+    {
+        if own {
+            return 2;
+        }
+        1
+    }
+
+    // The fields of as many frames as a record has slots for.
+    pub fn frame_widths() -> [usize; Sheet::FRAME_FIELDS_ROOM]
+        ensures { λ r. ⌜ r ≡ frame-widths true most-frames ⌝ }
+    {
+        [Sheet::TIME_WIDTH; Sheet::FRAME_FIELDS_ROOM]
+    }
+
+    // Whether a version gives each frame a deadline of its own.
+    pub fn own_deadlines(version: u32) -> bool
+        ensures { λ r. ⌜ r ≡ own-deadlines version ⌝ }
+    {
+        version == Sheet::VERSION_2
     }
 
     pub fn policies() -> Policies
@@ -202,10 +264,10 @@ impl Task {
     {
         Task {
             period: 0,
-            deadline: 0,
             lock: 0,
             frame_count: 0,
             frames: [0; Sheet::FRAME_ROOM],
+            deadlines: [0; Sheet::FRAME_ROOM],
         }
     }
 }
@@ -225,6 +287,16 @@ pub fn known_policy(policy: u32) -> bool
     ensures { λ r. ⌜ r ≡ known-policy policy ⌝ }
 {
     policy <= Sheet::DEADLINE_MONOTONIC
+}
+
+// Whether a version is one of those from `least` to `most`.
+pub fn version_among(least: u32, most: u32, version: u32) -> bool
+    ensures { λ r. ⌜ r ≡ version-among least most version ⌝ }
+{
+    if version < least {
+        return false;
+    }
+    version <= most
 }
 
 // Whether a count is 0 or over its limit.
@@ -263,18 +335,35 @@ pub fn frame_after(task: Task, k: u32) -> u32
     next_frame(k as usize, frame_count(task)) as u32
 }
 
-// The deadline of frame k.
+// The deadline of frame k, going round.
 pub fn deadline_of(task: Task, k: usize) -> u32
     ensures { λ r. ⌜ r ≡ deadline-of (task-in task) k ⌝ }
 {
-    task.deadline
+    let count = frame_count(task);
+    if count == 0 {
+        return 0;
+    }
+    let deadlines = task.deadlines;
+    deadlines[k % count]
 }
 
-// The shortest deadline of a task's frames.
+// The shortest deadline of a task's frames; 0 where it has none.
 pub fn shortest_deadline(task: Task) -> u32
     ensures { λ r. ⌜ r ≡ shortest-deadline (task-in task) ⌝ }
 {
-    task.deadline
+    let count = frame_count(task);
+    if count == 0 {
+        return 0;
+    }
+    let deadlines = task.deadlines;
+    let mut shortest = deadlines[0];
+    for k in 1..count {
+        let next = deadlines[k];
+        if next < shortest {
+            shortest = next;
+        }
+    }
+    shortest
 }
 
 // Why no frame of a task qualifies as start: the lowest-numbered largest frame, the shortest length at which another frame's sum is greater, and
@@ -298,7 +387,7 @@ impl Reason {
     }
 }
 
-// What is turned away, in the order of the numbers 1 to 12; a task number where the number belongs to a task, and of 11 the reason.
+// What is turned away, in the order of the numbers 1 to 12, and 17; a task number where the number belongs to a task, and of 11 the reason.
 pub enum Refusal {
     Length,
     CheckWord,
@@ -312,6 +401,7 @@ pub enum Refusal {
     Lock(u32),
     NotMonotonic(u32, Reason),
     Room,
+    Deadlines,
 }
 
 impl Refusal {
@@ -331,6 +421,7 @@ impl Refusal {
             Refusal::Lock(_) => 10,
             Refusal::NotMonotonic(_, _) => 11,
             Refusal::Room => 12,
+            Refusal::Deadlines => 17,
         }
     }
 
@@ -350,6 +441,7 @@ impl Refusal {
             Refusal::TaskCount => 0,
             Refusal::Records => 0,
             Refusal::Room => 0,
+            Refusal::Deadlines => 0,
         }
     }
 
@@ -369,6 +461,7 @@ impl Refusal {
             Refusal::IllFormed(_) => Reason::blank(),
             Refusal::Lock(_) => Reason::blank(),
             Refusal::Room => Reason::blank(),
+            Refusal::Deadlines => Reason::blank(),
         }
     }
 }
@@ -379,9 +472,10 @@ pub enum Answer {
     Refused(Refusal),
 }
 
-// What the reader gives: beside a refusal stands a set with no task.
+// What the reader gives: beside a refusal stand no version and a set with no task.
 pub struct Reading {
     pub answer: Answer,
+    pub version: u32,
     pub set: TaskSet,
 }
 

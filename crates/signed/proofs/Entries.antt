@@ -1,5 +1,5 @@
 -- What each entry answers and leaves, from its definition: refused with the memory as it was, or done.
-use mathlib.Core.Bool.{Bool, true, false, cond}
+use mathlib.Core.Bool.{Bool, true, false, cond, _||_}
 use mathlib.Core.List.{List, [], _∷_, _++_, map, append-nil}
 use mathlib.Core.Logic.{_↔_}
 use mathlib.Core.Option.{none, some}
@@ -7,21 +7,22 @@ use mathlib.Core.Path.{_≡_, refl, sym, ap, _∙_}
 use Prim.Native.Nat.{ℕ, _-_, _*_, _≤_, _<_}
 use native.Mathlib.Decide.{decLt}
 use native.Mathlib.Omega.{arith}
-use lib.Dec.{ltb}
+use lib.Dec.{ltb, lit≤}
 use lib.ListN.{length, replicate, length-append, length-map, length-replicate}
 use lib.Seq.{take-at}
 use Rattle.theory.specs.Tasks.{Task}
 use Rattle.theory.specs.Tasks.{Admitted as IsAdmitted}
 use Rattle.lent.specs.Checks.{Check, _⇒_, first-refusal}
 use Rattle.lent.specs.Lent.{Call, laid, refusal-of, answered, left-after}
-use Rattle.lent.proofs.Checks.{no-check, none-first, some-first}
-use Rattle.lent.proofs.Lent.{Told, turned-away, is-done, told, by-checks, by-room, done}
-use Rattle.sheet.specs.Constants.{most-tasks, most-frames}
+use Rattle.lent.proofs.Checks.{Each, each-first, no-check, none-first, some-first}
+use Rattle.lent.proofs.Lent.{Told, turned-away, is-done, told, each-refusal, by-checks, by-room, done}
+use Rattle.sheet.specs.Constants.{version-1, version-2, most-tasks, most-frames}
+use Rattle.sheet.specs.Fields.{own-deadlines}
 use Rattle.sheet.specs.Refusals.{number-of}
 use Rattle.sheet.specs.Tasks.{task-in, record-of, records-of, blank-record}
 use Rattle.sheet.specs.Admission.{decided, task-count-check, list-checks, admission}
-use Rattle.sheet.specs.Reading.{sheet-checks, policy-of, tasks-of, reading}
-use Rattle.sheet.specs.Writing.{sheet-of}
+use Rattle.sheet.specs.Reading.{version-among, sheet-checks, version-of, policy-of, tasks-of, reading}
+use Rattle.sheet.specs.Writing.{sheet-of, one-deadline-each, writing-checks}
 use Rattle.sheet.specs.declared.Task.{Task as Record}
 use Rattle.sheet.specs.declared.TaskSet.{TaskSet}
 use Rattle.sheet.specs.declared.Answer.{Answer}
@@ -34,7 +35,9 @@ use Rattle.sheet.specs.declared.Refusal.{Refusal}
 use Rattle.sheet.specs.declared.Refusal.the-variants.{Room}
 use Rattle.sheet.proofs.Checks.{admits, refuses, none-applies, one-applies, passed}
 use Rattle.sheet.proofs.Counts.{count-passed, known-small}
-use Rattle.sheet.proofs.Carried.{Carried, by-admission, by-reading, reading-answer}
+use Rattle.sheet.proofs.Carried.{Carried, by-admission, passed-sheet, by-reading, reading-answer}
+use Rattle.sheet.proofs.RoundTrip.{version-small}
+use Rattle.sheet.proofs.WhatIsWritten.{Writable, passed-checks}
 use Rattle.sheet.proofs.Analysable.{admitted-set-is-admitted, admitted-sheet-is-admitted}
 use Rattle.order.specs.Order.{priority-order, ordered-set}
 use Rattle.analysis.specs.Times.{outcome-of, times-of}
@@ -48,12 +51,15 @@ use Rattle.lists.specs.Faces.{reading-list, list-read, list-filled, writing-lis
 use Rattle.lists.specs.declared.ListRead.{ListRead}
 use Rattle.lists.specs.declared.ListRead.the-variants.{Set}
 use Rattle.lists.specs.declared.ListRead.the-variants.{TurnedAway as not-read}
+use Rattle.converter.specs.Converting.{converting-checks, conversion, converting, converted, converted-left}
+use Rattle.converter.proofs.Outcomes.{Convertible, convertible}
 use Rattle.report_text.specs.Report.{first-line, task-lines, lines-behind, report}
 use Rattle.report_text.specs.Text.{reporting, report-written, report-left}
 use Rattle.workbench.specs.Entry.{checking, entry-number, entry-left}
 use Rattle.workbench.proofs.Four.{length-four}
 use Rattle.signed.specs.Claims.{Kept, in-numbers, in-bytes, refusal-to}
 use Rattle.signed.proofs.Memory.{stored}
+use Rattle.signed.proofs.Numbers.{Twelve, sheet-twelve, list-twelve}
 
 -- ---- the entries that analyse
 
@@ -64,11 +70,12 @@ pub record Sound (policy : ℕ) (tasks : List Task) : Type 0 where
 
 -- A call about these tasks is refused and leaves the memory as it was, or it decides of the tasks and their times stand first.
 pub data Analysed (policy : ℕ) (tasks : List Task) (kept : Kept) (before : List ℕ) : Decision → List ℕ → Type 0 where
-  is-refused : (why : Refusal) → Analysed policy tasks kept before (refused-decision why) before
+  is-refused : (why : Refusal) → Twelve why → Analysed policy tasks kept before (refused-decision why) before
   is-analysed : Sound policy tasks → length (stored kept (times-of policy tasks)) ≤ length before
       → Analysed policy tasks kept before (decision policy tasks) (laid (stored kept (times-of policy tasks)) before)
 
-module _ (checks : List (Check Refusal)) (policy : ℕ) (tasks : List Task) (before : List ℕ) (sound : first-refusal checks ≡ none → Sound policy tasks) where
+module _ (checks : List (Check Refusal)) (policy : ℕ) (tasks : List Task) (before : List ℕ) (few : Each Twelve checks)
+    (sound : first-refusal checks ≡ none → Sound policy tasks) where
   abbrev call : Call Refusal ℕ Decision
   call = analysing checks policy tasks
 
@@ -77,7 +84,7 @@ module _ (checks : List (Check Refusal)) (policy : ℕ) (tasks : List Task) (bef
   analysed = go (told Room refused-decision call before)
     where
       go : Told Room refused-decision call before → Analysed policy tasks in-numbers before (answered Room refused-decision call before) (left-after Room call before)
-      go (turned-away r t) = rw (t .answer, t .unchanged) (is-refused r)
+      go (turned-away r t) = rw (t .answer, t .unchanged) (is-refused r (each-refusal Room refused-decision call before Twelve few (lit≤ tt) r (t .why)))
       go (is-done d) = rw (d .answer, d .holds) (is-analysed (sound (d .admitted)) (d .room))
 
 sound-set : (s : TaskSet) → length (s .tasks) ≡ most-tasks → first-refusal (list-checks (s .policy) (s .«task_count») (records-of s)) ≡ none
@@ -96,12 +103,12 @@ sound-sheet s e =
 pub set-entry : (s : TaskSet) (before : List ℕ) → length (s .tasks) ≡ most-tasks
     → Analysed (s .policy) (map task-in (records-of s)) in-numbers before (set-decision s before) (set-left s before)
 unfolding set-decision set-left set-analysing
-set-entry s before sixteen = analysed (list-checks (s .policy) (s .«task_count») (records-of s)) (s .policy) (map task-in (records-of s)) before (sound-set s sixteen)
+set-entry s before sixteen = analysed (list-checks (s .policy) (s .«task_count») (records-of s)) (s .policy) (map task-in (records-of s)) before (list-twelve _ _ _) (sound-set s sixteen)
 
 -- `analyse_sheet`
 pub sheet-entry : (s before : List ℕ) → Analysed (policy-of s) (tasks-of s) in-numbers before (sheet-decision s before) (sheet-left s before)
 unfolding sheet-decision sheet-left sheet-analysing
-sheet-entry s before = analysed (sheet-checks s) (policy-of s) (tasks-of s) before (sound-sheet s)
+sheet-entry s before = analysed (sheet-checks s) (policy-of s) (tasks-of s) before (sheet-twelve s) (sound-sheet s)
 
 -- `burrbeech_check_sheet`: the number of an outcome
 pub check-entry : (s before : List ℕ)
@@ -111,7 +118,7 @@ check-entry s before = go (told Room number-of (checking s) before)
   where
     go : Told Room number-of (checking s) before
         → (decided : Decision) × (entry-number s before ≡ code (decided .outcome)) × Analysed (policy-of s) (tasks-of s) in-bytes before decided (entry-left s before)
-    go (turned-away r t) = (refused-decision r, t .answer, rw (t .unchanged) (is-refused r))
+    go (turned-away r t) = (refused-decision r, t .answer, rw (t .unchanged) (is-refused r (each-refusal Room number-of (checking s) before Twelve (sheet-twelve s) (lit≤ tt) r (t .why))))
     go (is-done d) = (decision (policy-of s) (tasks-of s), d .answer, rw (d .holds) (is-analysed (sound-sheet s (d .admitted)) (d .room)))
 
 -- ---- lists
@@ -140,13 +147,13 @@ module _ (policy : ℕ) (list : List Record) where
 pub list-entry : (policy : ℕ) (list : List Record) (before : List ℕ)
     → Analysed policy (map task-in list) in-numbers before (list-analysed policy list before) (list-times policy list before)
 unfolding list-analysed list-times analysing-list
-list-entry policy list before = analysed (list-checks policy (length list) list) policy (map task-in list) before (sound-list policy list)
+list-entry policy list before = analysed (list-checks policy (length list) list) policy (map task-in list) before (list-twelve _ _ _) (sound-list policy list)
 
 -- `read_list` is refused and leaves the list as it was, or a record for each task of the sheet stands first.
 pub data Read (sheet : List ℕ) (before : List Record) : ListRead → List Record → Type 0 where
   no-read : (why : Refusal) → Read sheet before (not-read why) before
   is-read : reading sheet .answer ≡ Admitted → length (tasks-of sheet) ≤ length before
-      → Read sheet before (Set (policy-of sheet) (length (tasks-of sheet))) (laid (map record-of (tasks-of sheet)) before)
+      → Read sheet before (Set (version-of sheet) (policy-of sheet) (length (tasks-of sheet))) (laid (map record-of (tasks-of sheet)) before)
 
 module _ (sheet : List ℕ) (before : List Record) where
   pub read-entry : Read sheet before (list-read sheet before) (list-filled sheet before)
@@ -161,50 +168,98 @@ module _ (sheet : List ℕ) (before : List Record) where
 
   -- an admitted sheet with room is read
   pub reads : reading sheet .answer ≡ Admitted → length (tasks-of sheet) ≤ length before
-      → (list-read sheet before ≡ Set (policy-of sheet) (length (tasks-of sheet))) × (list-filled sheet before ≡ laid (map record-of (tasks-of sheet)) before)
+      → (list-read sheet before ≡ Set (version-of sheet) (policy-of sheet) (length (tasks-of sheet))) × (list-filled sheet before ≡ laid (map record-of (tasks-of sheet)) before)
   unfolding list-read list-filled reading-list
   reads a h =
       let d = done Room not-read (reading-list sheet) before (none-applies (sheet-checks sheet) (sym (reading-answer sheet) ∙ a)) (omega (arith, h, length-map (tasks-of sheet) record-of)) in
       (d .answer, d .holds)
 
--- the policy that was read is one of the known, and the tasks are few
+-- the version and the policy that were read are of the known, and the tasks are few
 pub known-read : (sheet : List ℕ) (before : List Record) (x : ListRead) (after : List Record) → Read sheet before x after
-    → (policy count : ℕ) → x ≡ Set policy count → (policy < 256) × (count < 256)
-known-read sheet before x after (no-read why) policy count e = let z : _≡_ {A = ℕ} 0 1 = cc in let z : ⊥ = omega arith in absurd z
-known-read sheet before x after (is-read a fits) policy count e =
+    → (version policy count : ℕ) → x ≡ Set version policy count → (version < 256) × (policy < 256) × (count < 256)
+known-read sheet before x after (no-read why) version policy count e = let z : _≡_ {A = ℕ} 0 1 = cc in let z : ⊥ = omega arith in absurd z
+known-read sheet before x after (is-read a fits) version policy count e =
+    let form : version-of sheet ≡ version = cc in
     let same : policy-of sheet ≡ policy = cc in
     let tasks : length (tasks-of sheet) ≡ count = cc in
-    let c = by-reading sheet a in
-    (omega (arith, known-small (policy-of sheet) (c .policy-known)), omega (arith, c .few-tasks))
+    let c = by-reading sheet a in (
+      omega (arith, version-small (version-of sheet) (passed-sheet sheet a .version-known)),
+      omega (arith, known-small (policy-of sheet) (c .policy-known)),
+      omega (arith, c .few-tasks),
+    )
+
+-- admitted tasks in a version that is known and can hold them
+pub record Held (version policy : ℕ) (tasks : List Task) : Type 0 where
+  pub known : version-among version-1 version-2 version ≡ true
+  pub sound : Sound policy tasks
+  pub held : (own-deadlines version || one-deadline-each tasks) ≡ true
 
 -- `write_list` is refused and leaves the bytes as they were, or the list's sheet stands first.
-pub data Wrote (policy : ℕ) (list : List Record) (before : List ℕ) : Written → List ℕ → Type 0 where
-  no-write : (why : Refusal) → Wrote policy list before (not-written why) before
-  is-written : Sound policy (map task-in list) → length (sheet-of policy (map task-in list)) ≤ length before
-      → Wrote policy list before (Bytes (length (sheet-of policy (map task-in list)))) (laid (sheet-of policy (map task-in list)) before)
+pub data Wrote (version policy : ℕ) (list : List Record) (before : List ℕ) : Written → List ℕ → Type 0 where
+  no-write : (why : Refusal) → Wrote version policy list before (not-written why) before
+  is-written : Held version policy (map task-in list) → length (sheet-of version policy (map task-in list)) ≤ length before
+      → Wrote version policy list before (Bytes (length (sheet-of version policy (map task-in list)))) (laid (sheet-of version policy (map task-in list)) before)
 
-module _ (policy : ℕ) (list : List Record) (before : List ℕ) where
-  pub write-entry : Wrote policy list before (list-written policy list before) (list-left policy list before)
+module _ (version policy : ℕ) (list : List Record) (before : List ℕ) where
+  held-list : first-refusal (writing-checks version policy (length list) list) ≡ none → Held version policy (map task-in list)
+  unfolding admission
+  held-list e =
+      let same : records-of (as-set policy list) ≡ list = all-in-use policy list in
+      let passes : Writable version (as-set policy list) =
+      passed-checks version (as-set policy list)
+      (rw same (admits (writing-checks version policy (length list) list) e)) in
+      record {
+        known = passes .known;
+        sound = sound-list policy list (none-applies (list-checks policy (length list) list) (rw same at (passes .admitted)));
+        held = rw same at (passes .held);
+      }
+
+  pub write-entry : Wrote version policy list before (list-written version policy list before) (list-left version policy list before)
   unfolding list-written list-left writing-list
-  write-entry = go (told Room not-written (writing-list policy list) before)
+  write-entry = go (told Room not-written (writing-list version policy list) before)
     where
-      go : Told Room not-written (writing-list policy list) before → Wrote policy list before (list-written policy list before) (list-left policy list before)
+      go : Told Room not-written (writing-list version policy list) before → Wrote version policy list before (list-written version policy list before) (list-left version policy list before)
       go (turned-away r t) = rw (t .answer, t .unchanged) (no-write r)
-      go (is-done d) = rw (d .answer, d .holds) (is-written (sound-list policy list (d .admitted)) (d .room))
+      go (is-done d) = rw (d .answer, d .holds) (is-written (held-list (d .admitted)) (d .room))
 
-  -- an admitted list with room is written
-  pub writes : decided (list-checks policy (length list) list) ≡ Admitted → length (sheet-of policy (map task-in list)) ≤ length before
-      → (list-written policy list before ≡ Bytes (length (sheet-of policy (map task-in list)))) × (list-left policy list before ≡ laid (sheet-of policy (map task-in list)) before)
+  -- a list that can be written is, where there is room
+  pub writes : decided (writing-checks version policy (length list) list) ≡ Admitted → length (sheet-of version policy (map task-in list)) ≤ length before
+      → (list-written version policy list before ≡ Bytes (length (sheet-of version policy (map task-in list)))) × (list-left version policy list before ≡ laid (sheet-of version policy (map task-in list)) before)
   unfolding list-written list-left writing-list
   writes a h =
-      let d = done Room not-written (writing-list policy list) before (none-applies (list-checks policy (length list) list) a) h in
+      let d = done Room not-written (writing-list version policy list) before (none-applies (writing-checks version policy (length list) list) a) h in
+      (d .answer, d .holds)
+
+-- ---- converting
+
+-- `convert` is refused and leaves the bytes as they were, or the conversion stands first.
+pub data Converted (version : ℕ) (sheet before : List ℕ) : Written → List ℕ → Type 0 where
+  no-conversion : (why : Refusal) → Converted version sheet before (not-written why) before
+  is-converted : Convertible version sheet → length (conversion version sheet) ≤ length before
+      → Converted version sheet before (Bytes (length (conversion version sheet))) (laid (conversion version sheet) before)
+
+module _ (version : ℕ) (sheet before : List ℕ) where
+  pub convert-entry : Converted version sheet before (converted version sheet before) (converted-left version sheet before)
+  unfolding converted converted-left converting
+  convert-entry = go (told Room not-written (converting version sheet) before)
+    where
+      go : Told Room not-written (converting version sheet) before → Converted version sheet before (converted version sheet before) (converted-left version sheet before)
+      go (turned-away r t) = rw (t .answer, t .unchanged) (no-conversion r)
+      go (is-done d) = rw (d .answer, d .holds) (is-converted (convertible version sheet .0 (d .admitted)) (d .room))
+
+  -- a sheet that can be converted is, where there is room
+  pub converts : Convertible version sheet → length (conversion version sheet) ≤ length before
+      → (converted version sheet before ≡ Bytes (length (conversion version sheet))) × (converted-left version sheet before ≡ laid (conversion version sheet) before)
+  unfolding converted converted-left converting
+  converts c h =
+      let d = done Room not-written (converting version sheet) before (convertible version sheet .1 c) h in
       (d .answer, d .holds)
 
 -- ---- the report
 
 -- A report on these tasks is one line that refuses, or the outcome's line and a line for each task.
 pub data Reported (policy : ℕ) (tasks : List Task) : List ℕ → Type 0 where
-  no-report : (why : Refusal) → Reported policy tasks (first-line (Refused why) (length tasks))
+  no-report : (why : Refusal) → Twelve why → Reported policy tasks (first-line (Refused why) (length tasks))
   is-reported : Sound policy tasks
       → Reported policy tasks
       (first-line (outcome-of policy tasks) (length tasks) ++ task-lines (priority-order policy tasks) (ordered-set policy tasks) 0 (length tasks))
@@ -236,7 +291,9 @@ report-entry s = go (decided (sheet-checks s)) refl
     go Admitted e =
         unfold outcome-by in
         rw (lines-printed (policy-of s) (tasks-of s) (outcome-of (policy-of s) (tasks-of s)) refl) (is-reported (sound-sheet s (none-applies (sheet-checks s) e)))
-    go (turned why) e = unfold outcome-by lines-behind in rw (append-nil (first-line (Refused why) (length (tasks-of s)))) (no-report why)
+    go (turned why) e =
+        unfold outcome-by lines-behind in
+        rw (append-nil (first-line (Refused why) (length (tasks-of s)))) (no-report why (each-first Twelve (sheet-checks s) (sheet-twelve s) why (one-applies (sheet-checks s) why e)))
 
 -- `write_report` is refused for want of room and leaves the bytes as they were, or the text stands first.
 pub data Printed (sheet before : List ℕ) : Written → List ℕ → Type 0 where
@@ -333,12 +390,30 @@ list-exactly policy list before =
     (λ e. sound-times _ _ (sound-list policy list (none-applies (list-checks policy (length list) list) e)))
     (not-refused _ _) refusals-apart
 
-pub write-exactly : (policy : ℕ) (list : List Record) (before : List ℕ) (why : Refusal)
-    → (list-written policy list before ≡ not-written why)
-    ↔ (refusal-to (decided (list-checks policy (length list) list)) (length (sheet-of policy (map task-in list))) (length before) ≡ some why)
+pub write-exactly : (version policy : ℕ) (list : List Record) (before : List ℕ) (why : Refusal)
+    → (list-written version policy list before ≡ not-written why)
+    ↔ (refusal-to (decided (writing-checks version policy (length list) list)) (length (sheet-of version policy (map task-in list))) (length before) ≡ some why)
 unfolding list-written writing-list
-write-exactly policy list before =
-    exactly not-written (writing-list policy list) before (length (sheet-of policy (map task-in list))) (λ e. refl)
+write-exactly version policy list before =
+    exactly not-written (writing-list version policy list) before (length (sheet-of version policy (map task-in list))) (λ e. refl)
+    (λ r e. let z : _≡_ {A = ℕ} 0 1 = cc in omega arith) (λ q r e. let z : q ≡ r = cc in z)
+
+-- it answers a refusal exactly where its order gives it
+pub convert-said : (version : ℕ) (sheet before : List ℕ) (why : Refusal)
+    → (converted version sheet before ≡ not-written why) ↔ (refusal-of Room (converting version sheet) before ≡ some why)
+unfolding converted converting
+convert-said version sheet before why =
+    let size = length (conversion version sheet) in (
+      λ e. why-said not-written (converting version sheet) before size (λ q. refl) (λ r q. let z : _≡_ {A = ℕ} 0 1 = cc in omega arith) (λ q r d. let z : q ≡ r = cc in z) why e,
+      refused-says not-written (converting version sheet) before size (λ q. refl) why,
+    )
+
+pub convert-exactly : (version : ℕ) (sheet before : List ℕ) (why : Refusal)
+    → (converted version sheet before ≡ not-written why)
+    ↔ (refusal-to (decided (converting-checks version sheet)) (length (conversion version sheet)) (length before) ≡ some why)
+unfolding converted converting
+convert-exactly version sheet before =
+    exactly not-written (converting version sheet) before (length (conversion version sheet)) (λ e. refl)
     (λ r e. let z : _≡_ {A = ℕ} 0 1 = cc in omega arith) (λ q r e. let z : q ≡ r = cc in z)
 
 module _ (sheet : List ℕ) where
@@ -406,9 +481,13 @@ module _ (r : Refusal) where
   unfolding list-read list-filled reading-list
   read-unchanged sheet before = unchanged not-read (reading-list sheet) (λ q e. let z : _≡_ {A = ℕ} 0 1 = cc in omega arith) before r
 
-  pub write-unchanged : (policy : ℕ) (list : List Record) (before : List ℕ) → list-written policy list before ≡ not-written r → list-left policy list before ≡ before
+  pub write-unchanged : (version policy : ℕ) (list : List Record) (before : List ℕ) → list-written version policy list before ≡ not-written r → list-left version policy list before ≡ before
   unfolding list-written list-left writing-list
-  write-unchanged policy list before = unchanged not-written (writing-list policy list) (λ q e. let z : _≡_ {A = ℕ} 0 1 = cc in omega arith) before r
+  write-unchanged version policy list before = unchanged not-written (writing-list version policy list) (λ q e. let z : _≡_ {A = ℕ} 0 1 = cc in omega arith) before r
+
+  pub convert-unchanged : (version : ℕ) (sheet before : List ℕ) → converted version sheet before ≡ not-written r → converted-left version sheet before ≡ before
+  unfolding converted converted-left converting
+  convert-unchanged version sheet before = unchanged not-written (converting version sheet) (λ q e. let z : _≡_ {A = ℕ} 0 1 = cc in omega arith) before r
 
   pub print-unchanged : (sheet before : List ℕ) → report-written sheet before ≡ not-written r → report-left sheet before ≡ before
   unfolding report-written report-left reporting

@@ -1,4 +1,4 @@
--- The theorems are in Signed, Plays and WorstRuns; the rest stands below them.
+-- The theorems are in Signed, Conversions, Plays and WorstRuns; the rest stands below them.
 pub mod Times
 pub mod Numbers
 pub mod Memory
@@ -12,8 +12,10 @@ pub mod Words
 pub mod Report
 pub mod Signed
 pub mod Read
+pub mod Conversions
 pub mod Played
 pub mod Plays
 pub mod Worst
 pub mod WorstRuns
 pub mod Forwarded
+pub mod ForwardedTold

@@ -16,8 +16,9 @@ use Rattle.lists.specs.Lists.{gathered-of}
 use Rattle.lists.specs.Faces.{reading-list, list-read, list-written, list-analysed}
 use Rattle.lists.specs.declared.ListRead.the-variants.{TurnedAway as not-read}
 use Rattle.lists.proofs.Faces.{written-gathered, decision-gathered}
+use Rattle.converter.specs.Converting.{converting, converted}
 use Rattle.report_text.specs.Text.{reporting, report-written}
-use Rattle.workbench.proofs.Small.{NamesBelow, Names, names-more, room-names, row-names, sheet-names}
+use Rattle.workbench.proofs.Small.{NamesBelow, Names, names-more, room-names, row-names, writing-names, sheet-names, converting-names}
 use Rattle.signed.proofs.Numbers.{NamesSmall}
 use Rattle.signed.proofs.Entries.{not-refused, refusals-apart}
 
@@ -46,11 +47,16 @@ unfolding list-read reading-list
 read-named s list =
     named not-read (reading-list s) list (λ r e. let z : _≡_ {A = ℕ} 0 1 = cc in omega arith) (λ q r e. let z : q ≡ r = cc in z) (sheet-names s)
 
-pub write-named : (policy : ℕ) (list : List Record) (memory : List ℕ) (why : Refusal) → list-written policy list memory ≡ not-written why → NamesSmall why
+pub write-named : (version policy : ℕ) (list : List Record) (memory : List ℕ) (why : Refusal) → list-written version policy list memory ≡ not-written why → NamesSmall why
 unfolding written writing gathered-of
-write-named policy list memory why e =
-    named not-written (writing (gathered-of policy list)) memory (λ r e. let z : _≡_ {A = ℕ} 0 1 = cc in omega arith) (λ q r e. let z : q ≡ r = cc in z)
-    (row-names policy list memory) why (written-gathered policy list memory ∙ e)
+write-named version policy list memory why e =
+    named not-written (writing version (gathered-of policy list)) memory (λ r e. let z : _≡_ {A = ℕ} 0 1 = cc in omega arith) (λ q r e. let z : q ≡ r = cc in z)
+    (writing-names policy list memory version) why (written-gathered version policy list memory ∙ e)
+
+pub convert-named : (version : ℕ) (s memory : List ℕ) (why : Refusal) → converted version s memory ≡ not-written why → NamesSmall why
+unfolding converted converting
+convert-named version s memory =
+    named not-written (converting version s) memory (λ r e. let z : _≡_ {A = ℕ} 0 1 = cc in omega arith) (λ q r e. let z : q ≡ r = cc in z) (converting-names version s)
 
 pub report-named : (s memory : List ℕ) (why : Refusal) → report-written s memory ≡ not-written why → NamesSmall why
 unfolding report-written reporting

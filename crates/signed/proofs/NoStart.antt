@@ -12,15 +12,18 @@ use Rattle.lent.proofs.Checks.{each-first}
 use Rattle.sheet.specs.Tasks.{task-in}
 use Rattle.sheet.specs.Admission.{decided, reason-of, list-checks}
 use Rattle.sheet.specs.Reading.{tasks-of, reading}
+use Rattle.sheet.specs.Writing.{writing-checks}
 use Rattle.sheet.specs.declared.Task.{Task as Record}
 use Rattle.sheet.specs.declared.Answer.{Answer}
 use Rattle.sheet.specs.declared.Answer.the-variants.{Admitted, Refused}
 use Rattle.sheet.specs.declared.Reason.{Reason}
 use Rattle.sheet.specs.declared.Refusal.{Refusal}
-use Rattle.sheet.specs.declared.Refusal.the-variants.{Length, CheckWord, Version, Policy, BitSet, TaskCount, FrameCount, Records, IllFormed, Lock, NotMonotonic, Room}
+use Rattle.sheet.specs.declared.Refusal.the-variants.{Length, CheckWord, Version, Policy, BitSet, TaskCount, FrameCount, Records, IllFormed, Lock, NotMonotonic, Room, Deadlines}
 use Rattle.sheet.proofs.Checks.{one-applies}
-use Rattle.sheet.proofs.Refused.{Covers, list-each, sheet-each}
+use Rattle.sheet.proofs.Refused.{Covers, list-each, sheet-each, writing-each}
 use Rattle.sheet.proofs.Carried.{reading-answer}
+use Rattle.converter.specs.Converting.{converting-checks}
+use Rattle.converter.proofs.Outcomes.{converting-each}
 use Rattle.analysis.specs.Answers.{refused-decision}
 use Rattle.analysis.specs.declared.Outcome.the-variants.{Refused as not-analysed}
 use Rattle.analysis.specs.declared.Decision.{Decision}
@@ -42,6 +45,7 @@ Says tasks (IllFormed i) = Unit {0}
 Says tasks (Lock i) = Unit {0}
 Says tasks (NotMonotonic i why) = NoStart tasks i why
 Says tasks Room = Unit {0}
+Says tasks Deadlines = Unit {0}
 
 says : (tasks : List Task) → Covers (Says tasks) tasks
 unfolding Says reason-of
@@ -64,6 +68,16 @@ pub list-why : (policy n : ℕ) (rs : List Record) (i : ℕ) (why : Reason) → 
 unfolding Says
 list-why policy n rs i why e = each-first (Says (map task-in rs)) _ (list-each policy n rs (says (map task-in rs))) (NotMonotonic i why) (one-applies _ _ e)
 
+pub writing-why : (version policy n : ℕ) (rs : List Record) (i : ℕ) (why : Reason)
+    → decided (writing-checks version policy n rs) ≡ Refused (NotMonotonic i why) → NoStart (map task-in rs) i why
+unfolding Says
+writing-why version policy n rs i why e =
+    each-first (Says (map task-in rs)) _ (writing-each version policy n rs tt (says (map task-in rs))) (NotMonotonic i why) (one-applies _ _ e)
+
+pub converting-why : (version : ℕ) (s : List ℕ) (i : ℕ) (why : Reason) → decided (converting-checks version s) ≡ Refused (NotMonotonic i why) → NoStart (tasks-of s) i why
+unfolding Says
+converting-why version s i why e = each-first (Says (tasks-of s)) _ (converting-each version s tt (says (tasks-of s))) (NotMonotonic i why) (one-applies _ _ e)
+
 pub sheet-why : (s : List ℕ) (i : ℕ) (why : Reason) → reading s .answer ≡ Refused (NotMonotonic i why) → NoStart (tasks-of s) i why
 unfolding Says
 sheet-why s i why e = each-first (Says (tasks-of s)) _ (sheet-each s (says (tasks-of s))) (NotMonotonic i why) (one-applies _ _ (sym (reading-answer s) ∙ e))
@@ -82,5 +96,5 @@ of-input Admitted needs has i why e = go (ltb has needs) e
 -- an outcome that refuses is the whole answer
 pub refused-whole : {policy : ℕ} {tasks : List Task} {kept : Kept} {before after : List ℕ} {answer : Decision} → Analysed policy tasks kept before answer after
     → (why : Refusal) → answer .outcome ≡ not-analysed why → answer ≡ refused-decision why
-refused-whole (is-refused q) why e = let same : q ≡ why = cc in ap refused-decision same
+refused-whole (is-refused q few) why e = let same : q ≡ why = cc in ap refused-decision same
 refused-whole {policy} {tasks} (is-analysed sound room) why e = absurd (outcome-not-refused policy tasks why e)

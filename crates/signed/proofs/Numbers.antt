@@ -1,6 +1,6 @@
 -- A number says one thing: each answer comes back from its number.
 use mathlib.Core.Bool.{true, false}
-use mathlib.Core.List.{List}
+use mathlib.Core.List.{List, map}
 use mathlib.Core.Logic.{_⊎_, inl, inr}
 use mathlib.Core.Option.{some}
 use mathlib.Core.Path.{_≡_, refl, sym, ap, ap₂, _∙_}
@@ -10,16 +10,21 @@ use native.Mathlib.Omega.{arith}
 use borrow.Author.Tests.{lt-ltb, le-ltb, eq-eqb, ne-eqb}
 use lib.Dec.{eqb, lit<, lit≤}
 use Rattle.lent.specs.Checks.{first-refusal}
-use Rattle.lent.proofs.Checks.{each-first}
+use Rattle.lent.proofs.Checks.{Each, each-first}
+use Rattle.theory.specs.Tasks.{Task}
 use Rattle.sheet.specs.Constants.{most-tasks}
-use Rattle.sheet.specs.Reading.{sheet-checks}
+use Rattle.sheet.specs.Tasks.{task-in}
+use Rattle.sheet.specs.Admission.{list-checks}
+use Rattle.sheet.specs.Reading.{sheet-checks, tasks-of}
 use Rattle.sheet.specs.Refusals.{number-of, task-of-refusal, reason-of-refusal}
+use Rattle.sheet.specs.declared.Task.{Task as Record}
 use Rattle.sheet.specs.declared.Reason.{Reason}
 use Rattle.sheet.specs.declared.Refusal.{Refusal}
-use Rattle.sheet.specs.declared.Refusal.the-variants.{Length, CheckWord, Version, Policy, BitSet, TaskCount, FrameCount, Records, IllFormed, Lock, NotMonotonic, Room}
+use Rattle.sheet.specs.declared.Refusal.the-variants.{Length, CheckWord, Version, Policy, BitSet, TaskCount, FrameCount, Records, IllFormed, Lock, NotMonotonic, Room, Deadlines}
 use Rattle.sheet.specs.declared.Written.{Written}
 use Rattle.sheet.specs.declared.Written.the-variants.{Bytes}
 use Rattle.sheet.specs.declared.Written.the-variants.{TurnedAway as not-written}
+use Rattle.sheet.proofs.Refused.{Covers, list-each, sheet-each}
 use Rattle.order.specs.declared.Blocker.{Blocker}
 use Rattle.order.specs.declared.Blocker.the-variants.{At, Nobody}
 use Rattle.analysis.specs.Answers.{blocker-code, code}
@@ -44,7 +49,7 @@ use Rattle.signed.specs.Numbers.{blocker-by, said-by, refusal-by, reason
 
 -- ---- refusals
 
-pub refusal-range : (r : Refusal) → (1 ≤ number-of r) × (number-of r ≤ 12)
+pub refusal-range : (r : Refusal) → (1 ≤ number-of r) × (number-of r ≤ 17)
 refusal-range Length = (lit≤ tt, lit≤ tt)
 refusal-range CheckWord = (lit≤ tt, lit≤ tt)
 refusal-range Version = (lit≤ tt, lit≤ tt)
@@ -57,6 +62,7 @@ refusal-range (IllFormed i) = (lit≤ tt, lit≤ tt)
 refusal-range (Lock i) = (lit≤ tt, lit≤ tt)
 refusal-range (NotMonotonic i why) = (lit≤ tt, lit≤ tt)
 refusal-range Room = (lit≤ tt, lit≤ tt)
+refusal-range Deadlines = (lit≤ tt, lit≤ tt)
 
 refusal-back : (r : Refusal) → refusal-by (number-of r) (task-of-refusal r) (reason-of-refusal r) ≡ r
 unfolding refusal-by
@@ -72,6 +78,33 @@ refusal-back (IllFormed i) = refl
 refusal-back (Lock i) = refl
 refusal-back (NotMonotonic i why) = refl
 refusal-back Room = refl
+refusal-back Deadlines = refl
+
+-- a refusal of a sheet or of tasks that are analysed, or for want of room: 17 is of what is written
+abbrev pub Twelve : Refusal → Type 0
+Twelve r = number-of r ≤ 12
+
+pub twelve : (tasks : List Task) → Covers Twelve tasks
+twelve tasks =
+    record {
+      of-length = lit≤ tt;
+      of-check-word = lit≤ tt;
+      of-version = lit≤ tt;
+      of-policy = lit≤ tt;
+      of-bit-set = lit≤ tt;
+      of-task-count = lit≤ tt;
+      of-records = lit≤ tt;
+      of-frame-count = λ i h. lit≤ tt;
+      of-form = λ i h. lit≤ tt;
+      of-lock = λ i h. lit≤ tt;
+      of-monotony = λ i h few none-starts. lit≤ tt;
+    }
+
+pub sheet-twelve : (s : List ℕ) → Each Twelve (sheet-checks s)
+sheet-twelve s = sheet-each s (twelve (tasks-of s))
+
+pub list-twelve : (policy n : ℕ) (rs : List Record) → Each Twelve (list-checks policy n rs)
+list-twelve policy n rs = list-each policy n rs (twelve (map task-in rs))
 
 -- ---- the blocker
 
@@ -107,7 +140,7 @@ unfolding said-by
 miss-said p c h =
     rw (ne-eqb (100 + 17 * p + c) 0 (omega arith), le-ltb (100 + 17 * p + c) 100 (omega arith), less p c h, quotient p c h, rest p c h)
 
-pub refusal-said : (c : ℕ) → 1 ≤ c → c ≤ 12 → said-by c ≡ refused c
+pub refusal-said : (c : ℕ) → 1 ≤ c → c < 100 → said-by c ≡ refused c
 unfolding said-by
 refusal-said c l h = rw (ne-eqb c 0 (omega arith), lt-ltb c 100 (omega arith))
 
@@ -115,7 +148,7 @@ pub said-back : (o : Outcome) → FewOf o → said-by (code o) ≡ said o
 unfolding said said-by FewOf
 said-back Holds h = refl
 said-back (Missed p b) h = let (same, small) = blocker-back b h in miss-said p (blocker-code b) small ∙ ap (missed p) same
-said-back (not-analysed r) h = let (l, m) = refusal-range r in refusal-said (number-of r) l m
+said-back (not-analysed r) h = let (l, m) = refusal-range r in refusal-said (number-of r) l (omega arith)
 
 -- ---- every other entry
 
@@ -170,13 +203,17 @@ unfolding written-by
 written-back (Bytes n) h = rw (with-none n, detail n)
 written-back (not-written r) h = rw (with-refusal r) (ap not-written (refused-back r (h r refl)))
 
-pub read-back : (x : ListRead) → ((policy count : ℕ) → x ≡ Set policy count → (policy < 256) × (count < 256)) → ((why : Refusal) → x ≡ not-read why → NamesSmall why)
+pub read-back : (x : ListRead)
+    → ((version policy count : ℕ) → x ≡ Set version policy count → (version < 256) × (policy < 256) × (count < 256)) → ((why : Refusal) → x ≡ not-read why → NamesSmall why)
     → list-read-by (read-number x) ≡ x
 unfolding list-read-by
-read-back (Set policy count) h names =
-    let (known, few) = h policy count refl in
-    let high : (count + 256 * policy) / 256 % 256 ≡ policy = ap (λ (x : ℕ). x % 256) (high-part count policy few) ∙ mod-eq-of-lt known in
-    rw (with-none (count + 256 * policy), detail (count + 256 * policy), low-part count policy few, high)
+read-back (Set version policy count) h names =
+    let (form, known, few) = h version policy count refl in
+    let rest = policy + 256 * version in
+    let next : (count + 256 * rest) / 256 % 256 ≡ policy = ap (λ (x : ℕ). x % 256) (high-part count rest few) ∙ low-part policy version known in
+    let above : (count + 256 * rest) / 65536 ≡ version = omega arith in
+    let high : (count + 256 * rest) / 65536 % 256 ≡ version = ap (λ (x : ℕ). x % 256) above ∙ mod-eq-of-lt form in
+    rw (with-none (count + 256 * rest), detail (count + 256 * rest), low-part count rest few, next, high)
 read-back (not-read r) h names = rw (with-refusal r) (ap not-read (refused-back r (names r refl)))
 
 miss-back : (p c : ℕ) → c ≤ 16 → verdict-by (1 + 17 * p + c) ≡ Missed p (blocker-by c)
@@ -220,10 +257,9 @@ module _ (t i : ℕ) (h : t < 4294967296) (l : i < 256) where
   task-part : (t + 4294967296 * i) / 4294967296 % 256 ≡ i
   task-part = let above : (t + 4294967296 * i) / 4294967296 ≡ i = omega arith in ap (λ (x : ℕ). x % 256) above ∙ mod-eq-of-lt l
 
-own-back : (r : Refusal) → NamesSmall r → play-refused-by (refused-number r) ≡ Base r
+own-back : (r : Refusal) → Twelve r → NamesSmall r → play-refused-by (refused-number r) ≡ Base r
 unfolding play-refused-by
-own-back r h =
-    let range = refusal-range r in
+own-back r few h =
     rw (ne-eqb (refused-number r % 256) 13 (omega arith), ne-eqb (refused-number r % 256) 14 (omega arith)) (ap Base (refused-back r h))
 
 module _ (sheet script : List ℕ) where
@@ -231,9 +267,13 @@ module _ (sheet script : List ℕ) where
   own-small why (inl e) = names-more (lit≤ tt) (each-first (NamesBelow 32) (sheet-checks sheet) (sheet-names sheet) why e)
   own-small why (inr e) = rw e (names-more (lit≤ tt) room-names)
 
+  own-twelve : (why : Refusal) → (first-refusal (sheet-checks sheet) ≡ some why) ⊎ (why ≡ Room) → Twelve why
+  own-twelve why (inl e) = each-first Twelve (sheet-checks sheet) (sheet-twelve sheet) why e
+  own-twelve why (inr e) = rw e (lit≤ tt)
+
   why-back : (r : PlayRefusal) → RefusalWithin sheet script r → played-by (play-refused-number r) ≡ not-played r
   unfolding played-by play-refused-by
-  why-back _ (own-within why e) = rw (with-refusal why) (ap not-played (own-back why (own-small why e)))
+  why-back _ (own-within why e) = rw (with-refusal why) (ap not-played (own-back why (own-twelve why e) (own-small why e)))
   why-back _ script-within = refl
   why-back _ (item-within j h) =
       let number : (14 + 256 * j) % 256 ≡ 14 = omega arith in

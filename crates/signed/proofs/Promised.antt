@@ -1,17 +1,19 @@
 -- What an entry that analyses has answered and left keeps what we sign for.
-use mathlib.Core.List.{List, [], _∷_}
+use mathlib.Core.List.{List}
 use mathlib.Core.Logic.{_⊎_, inl, inr}
 use mathlib.Core.Path.{_≡_, refl, subst}
-use Prim.Native.Nat.{ℕ, zero, suc, _+_, _*_, _/_, _%_, _^_, _≤_, _<_}
+use Prim.Native.Nat.{ℕ, _+_, _*_, _/_, _%_, _^_, _≤_, _<_}
 use native.Mathlib.Decide.{decLt}
 use native.Mathlib.Omega.{arith}
 use lib.ListN.{length, getD}
 use Rattle.theory.specs.Tasks.{Task, task-at, frame-count, deadline-of}
+use Rattle.theory.proofs.Laws.{deadline-at}
 use Rattle.lent.specs.Lent.{laid}
 use Rattle.sheet.specs.Constants.{most-tasks}
 use Rattle.sheet.specs.Refusals.{number-of}
 use Rattle.sheet.specs.declared.Refusal.{Refusal}
-use Rattle.sheet.proofs.InFields.{Each, no-task, task-more, InFields}
+use Rattle.sheet.proofs.Turns.{time-at}
+use Rattle.sheet.proofs.Analysable.{each-at}
 use Rattle.sheet.proofs.Carried.{carried-fit}
 use Rattle.order.specs.declared.Blocker.the-variants.{At, Nobody}
 use Rattle.analysis.specs.Times.{outcome-of, times-of}
@@ -36,11 +38,12 @@ module _ (policy : ℕ) (tasks : List Task) (sound : Sound policy tasks) where
   long = times-long policy tasks (sound .carried .counted)
 
   -- a time is within a deadline, and so small
-  deadline-small : (ts : List Task) → Each InFields ts → (i k : ℕ) → i < length ts → deadline-of (task-at ts i) k < 2 ^ 32
-  unfolding task-at deadline-of
-  deadline-small [] no-task i k h = let z : ⊥ = omega arith in absurd z
-  deadline-small (t ∷ ts) (task-more f fs) zero k h = omega (arith, f .deadline-fits)
-  deadline-small (t ∷ ts) (task-more f fs) (suc i) k h = deadline-small ts fs i k (omega arith)
+  deadline-small : (i k : ℕ) → i < length tasks → k < frame-count (task-at tasks i) → deadline-of (task-at tasks i) k < 2 ^ 32
+  unfolding frame-count
+  deadline-small i k h l =
+      let t = task-at tasks i in
+      let f = each-at (carried-fit (sound .carried)) i h in
+      rw (deadline-at t k l) (omega (arith, time-at (t .deadlines) k (f .deadlines-fit) (omega (arith, l, f .as-many))))
 
   times-small : (j : ℕ) → j < length (times-of policy tasks) → getD (times-of policy tasks) j 0 < 2 ^ 32
   times-small j h = subst (λ (m : ℕ). getD (times-of policy tasks) m 0 < 2 ^ 32) here (go (each policy tasks (sound .admitted) eight (λ m. getD (times-of policy tasks) m 0) (λ m l. refl) (j / 8) inside))
@@ -57,7 +60,7 @@ module _ (policy : ℕ) (tasks : List Task) (sound : Sound policy tasks) where
       go (inl t) = framed (decLt (j % 8) (frame-count (task-at tasks (j / 8))))
         where
           framed : Dec (j % 8 < frame-count (task-at tasks (j / 8))) → getD (times-of policy tasks) (8 * (j / 8) + j % 8) 0 < 2 ^ 32
-          framed (yes l) = omega (arith, t .worst (j % 8) l .least .within, deadline-small tasks (carried-fit (sound .carried)) (j / 8) (j % 8) inside)
+          framed (yes l) = omega (arith, t .worst (j % 8) l .least .within, deadline-small (j / 8) (j % 8) inside l)
           framed (no l) = omega (arith, t .no-frame (j % 8) (omega arith) (omega arith))
 
   -- the times that stand in memory
@@ -81,19 +84,19 @@ few-said policy tasks kept before after (Refused why) h s = tt
 module _ {policy : ℕ} {tasks : List Task} {kept : Kept} {before : List ℕ} where
   pub promised : {decided : Decision} {after : List ℕ} → Analysed policy tasks kept before decided after → Signed policy tasks kept before after (said (decided .outcome))
   unfolding Signed said
-  promised (is-refused why) = (refusal-range why .0, refusal-range why .1, refl)
+  promised (is-refused why few) = (refusal-range why .0, few, refl)
   promised (is-analysed sound fits) = laid-signed policy tasks sound kept before fits
 
   pub few-of : {decided : Decision} {after : List ℕ} → Analysed policy tasks kept before decided after → FewOf (decided .outcome)
   unfolding FewOf
-  few-of (is-refused why) = tt
+  few-of (is-refused why few) = tt
   few-of (is-analysed sound fits) =
       few-said policy tasks kept before _ (outcome-of policy tasks) (sound .carried .few-tasks) (laid-signed policy tasks sound kept before fits)
 
   -- the parts of a decision have room in their bits
   pub in-bits : {decided : Decision} {after : List ℕ} → Analysed policy tasks kept before decided after
       → ((why : Refusal) → decided ≡ refused-decision why → NamesSmall why) → InBits (decided .outcome) (decided .«task_count»)
-  in-bits (is-refused why) names = unfold InBits in (refl, names why refl)
+  in-bits (is-refused why few) names = unfold InBits in (refl, names why refl)
   in-bits (is-analysed sound fits) names = go (outcome-of policy tasks) refl (laid-signed policy tasks sound kept before fits)
     where
       go : (o : Outcome) → outcome-of policy tasks ≡ o → Signed policy tasks kept before (laid (stored kept (times-of policy tasks)) before) (said o) → InBits o (length tasks)
@@ -106,7 +109,7 @@ module _ {policy : ℕ} {tasks : List Task} {kept : Kept} {before : List ℕ} wh
   -- the count is that of the tasks
   pub counted : {decided : Decision} {after : List ℕ} → Analysed policy tasks kept before decided after
       → decided .«task_count» ≡ count-said (length tasks) (said (decided .outcome))
-  counted (is-refused why) = unfold count-said said in refl
+  counted (is-refused why few) = unfold count-said said in refl
   counted (is-analysed sound fits) = go (outcome-of policy tasks) refl
     where
       go : (o : Outcome) → outcome-of policy tasks ≡ o → length tasks ≡ count-said (length tasks) (said o)
@@ -135,5 +138,5 @@ number-given policy tasks kept before after (Refused why) s = it-refuses (number
 -- a number from 1 to 12 is that of a refusal
 pub number-refused : {policy : ℕ} {tasks : List Task} {kept : Kept} {before after : List ℕ} {decided : Decision} → Analysed policy tasks kept before decided after
     → 1 ≤ code (decided .outcome) → code (decided .outcome) ≤ 12 → after ≡ before
-number-refused (is-refused why) l h = refl
+number-refused (is-refused why few) l h = refl
 number-refused {policy} {tasks} (is-analysed sound fits) l h = absurd (outcome-number policy tasks l h)

@@ -37,7 +37,7 @@ use Rattle.report_text.proofs.Reported.{report-fits}
 use Rattle.signed.specs.Claims.{missed, refused, said, in-numbers, WorstTime, Signed}
 use Rattle.signed.specs.Reports.{words-in, blocker-in, said-in, task-words, TimedWords, MissedWords, WordsUpTo, lines, Lines, text-in, ReportSigned, ReportLeft}
 use Rattle.signed.proofs.Words.{Plain, AllPlain, words-of-line, decimal-plain, decimal-no-dash, number-read}
-use Rattle.signed.proofs.Numbers.{refusal-range}
+use Rattle.signed.proofs.Numbers.{refusal-range, Twelve}
 use Rattle.signed.proofs.Times.{worst-time, some-miss}
 use Rattle.signed.proofs.Promised.{laid-signed}
 use Rattle.signed.proofs.Entries.{Sound, Reported, no-report, is-reported, report-entry, Printed, no-room, is-printed}
@@ -235,13 +235,13 @@ module _ (policy : ℕ) (tasks : List Task) (why : Refusal) where
   unfolding said Small
   refusing = ap said-in refusal-words ∙ said-back (Refused why) (length tasks) tt
 
-  refusal-signed : ReportSigned policy tasks refusal-line (said-in (words-in refusal-line))
+  refusal-signed : Twelve why → ReportSigned policy tasks refusal-line (said-in (words-in refusal-line))
   unfolding ReportSigned first-words
-  refusal-signed =
-      subst (ReportSigned policy tasks refusal-line) (sym refusing) (refusal-range why .0, refusal-range why .1, line-of-words (Refused why) (length tasks))
+  refusal-signed few =
+      subst (ReportSigned policy tasks refusal-line) (sym refusing) (refusal-range why .0, few, line-of-words (Refused why) (length tasks))
 
 pub report-promised : (policy : ℕ) (tasks : List Task) (text : List ℕ) → Reported policy tasks text → ReportSigned policy tasks text (said-in (words-in text))
-report-promised policy tasks text (no-report why) = refusal-signed policy tasks why
+report-promised policy tasks text (no-report why few) = refusal-signed policy tasks why few
 report-promised policy tasks text (is-reported sound) = text-signed policy tasks sound
 
 -- the text in lent bytes

@@ -20,8 +20,8 @@ use Rattle.sheet.specs.Constants.{most-tasks, most-frames}
 use Rattle.sheet.specs.Refusals.{number-of}
 use Rattle.sheet.specs.Tasks.{task-in, record-of, records-of}
 use Rattle.sheet.specs.Admission.{decided, list-checks, admission}
-use Rattle.sheet.specs.Reading.{sheet-checks, policy-of, tasks-of, reading}
-use Rattle.sheet.specs.Writing.{sheet-of}
+use Rattle.sheet.specs.Reading.{sheet-checks, version-of, policy-of, tasks-of, reading}
+use Rattle.sheet.specs.Writing.{sheet-of, writing-checks}
 use Rattle.sheet.specs.declared.Task.{Task as Record}
 use Rattle.sheet.specs.declared.TaskSet.{TaskSet}
 use Rattle.sheet.specs.declared.Written.{Written}
@@ -48,19 +48,20 @@ use Rattle.lists.specs.Faces.{list-read, list-filled, list-written, list-left}
 use Rattle.lists.specs.declared.ListRead.{ListRead}
 use Rattle.lists.specs.declared.ListRead.the-variants.{Set}
 use Rattle.lists.specs.declared.ListRead.the-variants.{TurnedAway as not-read}
+use Rattle.converter.specs.Converting.{converting-checks, conversion, converted}
 use Rattle.report_text.specs.Words.{refused-word, decimal, line}
 use Rattle.report_text.specs.Report.{first-line, report}
 use Rattle.report_text.specs.Text.{report-written}
 use Rattle.report_text.specs.declared.Text.{Text}
-use Rattle.signed.specs.Calls.{ReportText, WriteReport, AnalyseSet, AnalyseSheet, AnalyseList, ReadList, WriteList, CheckSheetC, AnalyseSheetC, AnalyseListC, ReadListC, WriteListC, ReportC}
+use Rattle.signed.specs.Calls.{ReportText, WriteReport, AnalyseSet, AnalyseSheet, AnalyseList, ReadList, WriteList, Convert, CheckSheetC, AnalyseSheetC, AnalyseListC, ReadListC, WriteListC, ConvertC, ReportC}
 use Rattle.signed.specs.Claims.{said, count-said, holds, missed, refused, in-numbers, in-bytes, WorstTime, Signed, refusal-to, NoStart, Explained, Damaged}
 use Rattle.signed.specs.Numbers.{blocker-by, said-by, IsNumber, list-read-by, written-by, decision-by}
 use Rattle.signed.specs.Reports.{words-in, said-in, text-in, ReportSigned, ReportLeft}
 use Rattle.signed.proofs.Report.{text-back, not-refusing, refusing, report-promised, printed-signed, printed-text}
 use Rattle.signed.proofs.Numbers.{miss-said, refusal-said, said-back, written-back, read-back, decision-back}
 use Rattle.signed.proofs.Entries as entries
-use Rattle.signed.proofs.Named.{sheet-named, list-named, read-named, write-named, report-named}
-use Rattle.signed.proofs.NoStart.{list-why, sheet-why, of-input, refused-whole}
+use Rattle.signed.proofs.Named.{sheet-named, list-named, read-named, write-named, convert-named, report-named}
+use Rattle.signed.proofs.NoStart.{list-why, writing-why, converting-why, sheet-why, of-input, refused-whole}
 use Rattle.signed.proofs.Promised.{promised, few-of, in-bits, counted, number-given, number-refused, outcome-number}
 use Rattle.signed.proofs.RoundTrip as trip
 use Rattle.signed.proofs.Damage as damage
@@ -98,7 +99,7 @@ pub number-says :
     × ((p b : ℕ) → b < 16 → said-by (100 + 17 * p + b) ≡ missed p (At b))
     × ((p : ℕ) → said-by (100 + 17 * p + 16) ≡ missed p Nobody)
 unfolding said-by blocker-by
-number-says = (refl, refusal-said, λ p b h. miss-said p b (omega arith) ∙ rw (ne-eqb b 16 (omega arith)), λ p. miss-said p 16 (lit≤ tt))
+number-says = (refl, λ c l h. refusal-said c l (omega arith), λ p b h. miss-said p b (omega arith) ∙ rw (ne-eqb b 16 (omega arith)), λ p. miss-said p 16 (lit≤ tt))
 
 -- And it is one of these, with a task and a blocker of the set.
 pub check-sheet-c-number : (sheet before after : List ℕ) (number : ℕ)
@@ -130,11 +131,17 @@ pub read-list-c-says : (sheet : List ℕ) (before after : List Record) (number :
 read-list-c-says sheet before after number c =
     record { answers = ap list-read-by (c .answers) ∙ read-back (list-read sheet before) (entries.known-read sheet before _ _ (entries.read-entry sheet before)) (read-named sheet before); leaves = c .leaves }
 
-pub write-list-c-says : (policy : ℕ) (list : List Record) (before after : List ℕ) (number : ℕ)
-    → WriteListC policy list before number after
-    → WriteList policy list before (written-by number) after
-write-list-c-says policy list before after number c =
-    record { answers = ap written-by (c .answers) ∙ written-back (list-written policy list before) (write-named policy list before); leaves = c .leaves }
+pub write-list-c-says : (version policy : ℕ) (list : List Record) (before after : List ℕ) (number : ℕ)
+    → WriteListC version policy list before number after
+    → WriteList version policy list before (written-by number) after
+write-list-c-says version policy list before after number c =
+    record { answers = ap written-by (c .answers) ∙ written-back (list-written version policy list before) (write-named version policy list before); leaves = c .leaves }
+
+pub convert-c-says : (version : ℕ) (sheet before after : List ℕ) (number : ℕ)
+    → ConvertC version sheet before number after
+    → Convert version sheet before (written-by number) after
+convert-c-says version sheet before after number c =
+    record { answers = ap written-by (c .answers) ∙ written-back (converted version sheet before) (convert-named version sheet before); leaves = c .leaves }
 
 pub report-c-says : (sheet before after : List ℕ) (number : ℕ)
     → ReportC sheet before number after
@@ -165,12 +172,18 @@ pub read-list-turned : (sheet : List ℕ) (before after : List Record) (answer :
     → (why : Refusal) → (answer ≡ not-read why) ↔ (refusal-to (reading sheet .answer) (length (tasks-of sheet)) (length before) ≡ some why)
 read-list-turned sheet before after answer c why = rw (c .answers) (entries.read-exactly sheet before why)
 
-pub write-list-turned : (policy : ℕ) (list : List Record) (before after : List ℕ) (answer : Written)
-    → WriteList policy list before answer after
+pub write-list-turned : (version policy : ℕ) (list : List Record) (before after : List ℕ) (answer : Written)
+    → WriteList version policy list before answer after
     → (why : Refusal)
     → (answer ≡ not-written why)
-    ↔ (refusal-to (decided (list-checks policy (length list) list)) (length (sheet-of policy (map task-in list))) (length before) ≡ some why)
-write-list-turned policy list before after answer c why = rw (c .answers) (entries.write-exactly policy list before why)
+    ↔ (refusal-to (decided (writing-checks version policy (length list) list)) (length (sheet-of version policy (map task-in list))) (length before) ≡ some why)
+write-list-turned version policy list before after answer c why = rw (c .answers) (entries.write-exactly version policy list before why)
+
+pub convert-turned : (version : ℕ) (sheet before after : List ℕ) (answer : Written)
+    → Convert version sheet before answer after
+    → (why : Refusal)
+    → (answer ≡ not-written why) ↔ (refusal-to (decided (converting-checks version sheet)) (length (conversion version sheet)) (length before) ≡ some why)
+convert-turned version sheet before after answer c why = rw (c .answers) (entries.convert-exactly version sheet before why)
 
 -- a report is refused for want of room alone
 pub write-report-turned : (sheet before after : List ℕ) (answer : Written)
@@ -231,10 +244,15 @@ pub read-list-says-why : (sheet : List ℕ) (before after : List Record) (answer
     → (i : ℕ) (why : Reason) → answer ≡ not-read (NotMonotonic i why) → NoStart (tasks-of sheet) i why
 read-list-says-why sheet before after answer c i why e = sheet-why sheet i why (of-input _ _ _ i why (read-list-turned sheet before after answer c _ .0 e))
 
-pub write-list-says-why : (policy : ℕ) (list : List Record) (before after : List ℕ) (answer : Written)
-    → WriteList policy list before answer after → (i : ℕ) (why : Reason) → answer ≡ not-written (NotMonotonic i why) → NoStart (map task-in list) i why
-write-list-says-why policy list before after answer c i why e =
-    list-why policy (length list) list i why (of-input _ _ _ i why (write-list-turned policy list before after answer c _ .0 e))
+pub write-list-says-why : (version policy : ℕ) (list : List Record) (before after : List ℕ) (answer : Written)
+    → WriteList version policy list before answer after → (i : ℕ) (why : Reason) → answer ≡ not-written (NotMonotonic i why) → NoStart (map task-in list) i why
+write-list-says-why version policy list before after answer c i why e =
+    writing-why version policy (length list) list i why (of-input _ _ _ i why (write-list-turned version policy list before after answer c _ .0 e))
+
+pub convert-says-why : (version : ℕ) (sheet before after : List ℕ) (answer : Written)
+    → Convert version sheet before answer after → (i : ℕ) (why : Reason) → answer ≡ not-written (NotMonotonic i why) → NoStart (tasks-of sheet) i why
+convert-says-why version sheet before after answer c i why e =
+    converting-why version sheet i why (of-input _ _ _ i why (convert-turned version sheet before after answer c _ .0 e))
 
 -- The same through C, from the number alone.
 pub analyse-sheet-c-says-why : (sheet before after : List ℕ) (number : ℕ) → AnalyseSheetC sheet before number after
@@ -252,10 +270,15 @@ pub read-list-c-says-why : (sheet : List ℕ) (before after : List Record) (numb
 read-list-c-says-why sheet before after number c =
     read-list-says-why sheet before after (list-read-by number) (read-list-c-says sheet before after number c)
 
-pub write-list-c-says-why : (policy : ℕ) (list : List Record) (before after : List ℕ) (number : ℕ)
-    → WriteListC policy list before number after → (i : ℕ) (why : Reason) → written-by number ≡ not-written (NotMonotonic i why) → NoStart (map task-in list) i why
-write-list-c-says-why policy list before after number c =
-    write-list-says-why policy list before after (written-by number) (write-list-c-says policy list before after number c)
+pub write-list-c-says-why : (version policy : ℕ) (list : List Record) (before after : List ℕ) (number : ℕ)
+    → WriteListC version policy list before number after → (i : ℕ) (why : Reason) → written-by number ≡ not-written (NotMonotonic i why) → NoStart (map task-in list) i why
+write-list-c-says-why version policy list before after number c =
+    write-list-says-why version policy list before after (written-by number) (write-list-c-says version policy list before after number c)
+
+pub convert-c-says-why : (version : ℕ) (sheet before after : List ℕ) (number : ℕ)
+    → ConvertC version sheet before number after → (i : ℕ) (why : Reason) → written-by number ≡ not-written (NotMonotonic i why) → NoStart (tasks-of sheet) i why
+convert-c-says-why version sheet before after number c =
+    convert-says-why version sheet before after (written-by number) (convert-c-says version sheet before after number c)
 
 -- There is one reason: other numbers are none.
 pub one-reason-why : (tasks : List Task) (i : ℕ) (a b : Reason) → 1 ≤ frame-count (task-at tasks i) → NoStart tasks i a → NoStart tasks i b → a ≡ b
@@ -279,9 +302,13 @@ analyse-list-refused policy list before after why c = c .leaves ∙ entries.list
 pub read-list-refused : (sheet : List ℕ) (before after : List Record) (why : Refusal) → ReadList sheet before (not-read why) after → after ≡ before
 read-list-refused sheet before after why c = c .leaves ∙ entries.read-unchanged why sheet before (sym (c .answers))
 
-pub write-list-refused : (policy : ℕ) (list : List Record) (before after : List ℕ) (why : Refusal)
-    → WriteList policy list before (not-written why) after → after ≡ before
-write-list-refused policy list before after why c = c .leaves ∙ entries.write-unchanged why policy list before (sym (c .answers))
+pub write-list-refused : (version policy : ℕ) (list : List Record) (before after : List ℕ) (why : Refusal)
+    → WriteList version policy list before (not-written why) after → after ≡ before
+write-list-refused version policy list before after why c = c .leaves ∙ entries.write-unchanged why version policy list before (sym (c .answers))
+
+pub convert-refused : (version : ℕ) (sheet before after : List ℕ) (why : Refusal)
+    → Convert version sheet before (not-written why) after → after ≡ before
+convert-refused version sheet before after why c = c .leaves ∙ entries.convert-unchanged why version sheet before (sym (c .answers))
 
 pub write-report-refused : (sheet before after : List ℕ) (why : Refusal) → WriteReport sheet before (not-written why) after → after ≡ before
 write-report-refused sheet before after why c = c .leaves ∙ entries.print-unchanged why sheet before (sym (c .answers))
@@ -334,19 +361,20 @@ module _ (sheet changed : List ℕ) (admitted : reading sheet .answer ≡ Admitt
 
 -- ---- Demand 2, of lists
 
--- What `read_list` leaves where it answers with a policy and a count: a record of each task of the sheet, 0 in frame slots past its count.
-pub read-list-fills : (sheet : List ℕ) (before after : List Record) (policy n : ℕ)
-    → ReadList sheet before (Set policy n) after
-    → (reading sheet .answer ≡ Admitted) × (policy ≡ policy-of sheet) × (take n after ≡ map record-of (tasks-of sheet))
-read-list-fills sheet before after policy n r =
-    trip.read-records sheet before after policy n (Set policy n) refl (subst₂ (entries.Read sheet before) (sym (r .answers)) (sym (r .leaves)) (entries.read-entry sheet before))
+-- What `read_list` leaves where it answers with a version, a policy and a count: a record of each task of the sheet, 0 in slots past its frame count.
+pub read-list-fills : (sheet : List ℕ) (before after : List Record) (version policy n : ℕ)
+    → ReadList sheet before (Set version policy n) after
+    → (reading sheet .answer ≡ Admitted) × (version ≡ version-of sheet) × (policy ≡ policy-of sheet) × (take n after ≡ map record-of (tasks-of sheet))
+read-list-fills sheet before after version policy n r =
+    trip.read-records sheet before after version policy n (Set version policy n) refl (subst₂ (entries.Read sheet before) (sym (r .answers)) (sym (r .leaves)) (entries.read-entry sheet before))
 
--- What `write_list` leaves where it answers with a number of bytes: the sheet of the policy and the tasks.
-pub write-list-writes : (policy : ℕ) (list : List Record) (before after : List ℕ) (n : ℕ)
-    → WriteList policy list before (Bytes n) after
-    → take n after ≡ sheet-of policy (map task-in list)
-write-list-writes policy list before after n w =
-    trip.written-sheet policy list before after n (Bytes n) refl (subst₂ (entries.Wrote policy list before) (sym (w .answers)) (sym (w .leaves)) (entries.write-entry policy list before)) .1
+-- What `write_list` leaves where it answers with a number of bytes: the sheet of the policy and the tasks in that version.
+pub write-list-writes : (version policy : ℕ) (list : List Record) (before after : List ℕ) (n : ℕ)
+    → WriteList version policy list before (Bytes n) after
+    → take n after ≡ sheet-of version policy (map task-in list)
+write-list-writes version policy list before after n w =
+    trip.written-sheet version policy list before after n (Bytes n) refl
+    (subst₂ (entries.Wrote version policy list before) (sym (w .answers)) (sym (w .leaves)) (entries.write-entry version policy list before)) .1
 
 -- What `write_report` leaves where it answers with a number of bytes: the whole report, of a refused sheet too.
 pub write-report-writes : (sheet before after : List ℕ) (n : ℕ)
@@ -362,62 +390,68 @@ unfolding first-line
 write-report-damaged sheet changed admitted damaged before after n w =
     write-report-writes changed before after n w .1 ∙ entries.report-turned changed CheckWord (damage.damaged-is-2 sheet changed admitted damaged)
 
--- `write_list`, then `read_list` of the bytes written into a list that is long enough: the same policy and the same tasks over the slots in use.
-pub write-then-read-list : (policy : ℕ) (list before after : List Record) (room written : List ℕ) (n : ℕ) (answer : ListRead)
-    → WriteList policy list room (Bytes n) written
+-- `write_list`, then `read_list` of the bytes written into a list that is long enough: the same version and policy, and the same tasks over the slots in use.
+pub write-then-read-list : (version policy : ℕ) (list before after : List Record) (room written : List ℕ) (n : ℕ) (answer : ListRead)
+    → WriteList version policy list room (Bytes n) written
     → length list ≤ length before
     → ReadList (take n written) before answer after
-    → (answer ≡ Set policy (length list))
+    → (answer ≡ Set version policy (length list))
     × (map task-in (take (length list) after) ≡ map task-in list)
     × (drop (length list) after ≡ drop (length list) before)
-write-then-read-list policy list before after room written n answer w fits r =
-    let (sound, same) = trip.written-sheet policy list room written n (Bytes n) refl (subst₂ (entries.Wrote policy list room) (sym (w .answers)) (sym (w .leaves)) (entries.write-entry policy list room)) in
-    let (said, tasks, rest) = trip.read-back policy list before sound fits in (
+write-then-read-list version policy list before after room written n answer w fits r =
+    let (held, same) =
+    trip.written-sheet version policy list room written n (Bytes n) refl
+    (subst₂ (entries.Wrote version policy list room) (sym (w .answers)) (sym (w .leaves)) (entries.write-entry version policy list room)) in
+    let (said, tasks, rest) = trip.read-back version policy list before held fits in (
       r .answers ∙ ap (λ (s : List ℕ). list-read s before) same ∙ said,
       ap (λ (l : List Record). map task-in (take (length list) l)) (r .leaves ∙ ap (λ (s : List ℕ). list-filled s before) same) ∙ tasks,
       ap (drop (length list)) (r .leaves ∙ ap (λ (s : List ℕ). list-filled s before) same) ∙ rest,
     )
 
 -- `read_list`, then `write_list` of the records read into room that is long enough: the same bytes.
-pub read-then-write-list : (sheet room written : List ℕ) (before after : List Record) (policy n : ℕ) (answer : Written) → IsBytes sheet
-    → ReadList sheet before (Set policy n) after
+pub read-then-write-list : (sheet room written : List ℕ) (before after : List Record) (version policy n : ℕ) (answer : Written) → IsBytes sheet
+    → ReadList sheet before (Set version policy n) after
     → length sheet ≤ length room
-    → WriteList policy (take n after) room answer written
+    → WriteList version policy (take n after) room answer written
     → (answer ≡ Bytes (length sheet))
     × (take (length sheet) written ≡ sheet)
     × (drop (length sheet) written ≡ drop (length sheet) room)
 unfolding laid
-read-then-write-list sheet room written before after policy n answer byte r fits w =
-    let (admitted, p, records) = trip.read-records sheet before after policy n (Set policy n) refl (subst₂ (entries.Read sheet before) (sym (r .answers)) (sym (r .leaves)) (entries.read-entry sheet before)) in
+read-then-write-list sheet room written before after version policy n answer byte r fits w =
+    let (admitted, v, p, records) = trip.read-records sheet before after version policy n (Set version policy n) refl (subst₂ (entries.Read sheet before) (sym (r .answers)) (sym (r .leaves)) (entries.read-entry sheet before)) in
     let (said, left) = trip.write-back sheet room byte admitted fits in
-    let whole = w .leaves ∙ ap₂ (λ (q : ℕ) (l : List Record). list-left q l room) p records ∙ left in (
-      w .answers ∙ ap₂ (λ (q : ℕ) (l : List Record). list-written q l room) p records ∙ said,
+    let whole =
+    w .leaves ∙ ap (λ (f : ℕ). list-left f policy (take n after) room) v ∙ ap₂ (λ (q : ℕ) (l : List Record). list-left (version-of sheet) q l room) p records ∙ left in (
+      w .answers
+          ∙ ap (λ (f : ℕ). list-written f policy (take n after) room) v
+          ∙ ap₂ (λ (q : ℕ) (l : List Record). list-written (version-of sheet) q l room) p records
+          ∙ said,
       ap (take (length sheet)) whole ∙ take-laid sheet room,
       ap (drop (length sheet)) whole ∙ drop-at sheet _ (length sheet) refl,
     )
 
 -- The same through C.
-pub write-then-read-list-c : (policy : ℕ) (list before after : List Record) (room written : List ℕ) (n number answer : ℕ)
-    → WriteListC policy list room number written → written-by number ≡ Bytes n
+pub write-then-read-list-c : (version policy : ℕ) (list before after : List Record) (room written : List ℕ) (n number answer : ℕ)
+    → WriteListC version policy list room number written → written-by number ≡ Bytes n
     → length list ≤ length before
     → ReadListC (take n written) before answer after
-    → (list-read-by answer ≡ Set policy (length list))
+    → (list-read-by answer ≡ Set version policy (length list))
     × (map task-in (take (length list) after) ≡ map task-in list)
     × (drop (length list) after ≡ drop (length list) before)
-write-then-read-list-c policy list before after room written n number answer w e fits r =
-    write-then-read-list policy list before after room written n (list-read-by answer)
-    (rw e at (write-list-c-says policy list room written number w)) fits (read-list-c-says (take n written) before after answer r)
+write-then-read-list-c version policy list before after room written n number answer w e fits r =
+    write-then-read-list version policy list before after room written n (list-read-by answer)
+    (rw e at (write-list-c-says version policy list room written number w)) fits (read-list-c-says (take n written) before after answer r)
 
-pub read-then-write-list-c : (sheet room written : List ℕ) (before after : List Record) (policy n number answer : ℕ) → IsBytes sheet
-    → ReadListC sheet before number after → list-read-by number ≡ Set policy n
+pub read-then-write-list-c : (sheet room written : List ℕ) (before after : List Record) (version policy n number answer : ℕ) → IsBytes sheet
+    → ReadListC sheet before number after → list-read-by number ≡ Set version policy n
     → length sheet ≤ length room
-    → WriteListC policy (take n after) room answer written
+    → WriteListC version policy (take n after) room answer written
     → (written-by answer ≡ Bytes (length sheet))
     × (take (length sheet) written ≡ sheet)
     × (drop (length sheet) written ≡ drop (length sheet) room)
-read-then-write-list-c sheet room written before after policy n number answer byte r e fits w =
-    read-then-write-list sheet room written before after policy n (written-by answer) byte
-    (rw e at (read-list-c-says sheet before after number r)) fits (write-list-c-says policy (take n after) room written answer w)
+read-then-write-list-c sheet room written before after version policy n number answer byte r e fits w =
+    read-then-write-list sheet room written before after version policy n (written-by answer) byte
+    (rw e at (read-list-c-says sheet before after number r)) fits (write-list-c-says version policy (take n after) room written answer w)
 
 -- ---- Demand 3: a time that is written is a time
 
@@ -515,9 +549,9 @@ one-analyse-list policy list before x y a b c d = (c .answers ∙ sym (d .answer
 pub one-read-list : (sheet : List ℕ) (before x y : List Record) (a b : ListRead) → ReadList sheet before a x → ReadList sheet before b y → (a ≡ b) × (x ≡ y)
 one-read-list sheet before x y a b c d = (c .answers ∙ sym (d .answers), c .leaves ∙ sym (d .leaves))
 
-pub one-write-list : (policy : ℕ) (list : List Record) (before x y : List ℕ) (a b : Written)
-    → WriteList policy list before a x → WriteList policy list before b y → (a ≡ b) × (x ≡ y)
-one-write-list policy list before x y a b c d = (c .answers ∙ sym (d .answers), c .leaves ∙ sym (d .leaves))
+pub one-write-list : (version policy : ℕ) (list : List Record) (before x y : List ℕ) (a b : Written)
+    → WriteList version policy list before a x → WriteList version policy list before b y → (a ≡ b) × (x ≡ y)
+one-write-list version policy list before x y a b c d = (c .answers ∙ sym (d .answers), c .leaves ∙ sym (d .leaves))
 
 pub one-check-sheet-c : (sheet before x y : List ℕ) (a b : ℕ) → CheckSheetC sheet before a x → CheckSheetC sheet before b y → (a ≡ b) × (x ≡ y)
 one-check-sheet-c sheet before x y a b c d = (c .answers ∙ sym (d .answers), c .leaves ∙ sym (d .leaves))
@@ -532,9 +566,15 @@ one-analyse-list-c policy list before x y a b c d = (c .answers ∙ sym (d .answ
 pub one-read-list-c : (sheet : List ℕ) (before x y : List Record) (a b : ℕ) → ReadListC sheet before a x → ReadListC sheet before b y → (a ≡ b) × (x ≡ y)
 one-read-list-c sheet before x y a b c d = (c .answers ∙ sym (d .answers), c .leaves ∙ sym (d .leaves))
 
-pub one-write-list-c : (policy : ℕ) (list : List Record) (before x y : List ℕ) (a b : ℕ)
-    → WriteListC policy list before a x → WriteListC policy list before b y → (a ≡ b) × (x ≡ y)
-one-write-list-c policy list before x y a b c d = (c .answers ∙ sym (d .answers), c .leaves ∙ sym (d .leaves))
+pub one-write-list-c : (version policy : ℕ) (list : List Record) (before x y : List ℕ) (a b : ℕ)
+    → WriteListC version policy list before a x → WriteListC version policy list before b y → (a ≡ b) × (x ≡ y)
+one-write-list-c version policy list before x y a b c d = (c .answers ∙ sym (d .answers), c .leaves ∙ sym (d .leaves))
+
+pub one-convert : (version : ℕ) (sheet before x y : List ℕ) (a b : Written) → Convert version sheet before a x → Convert version sheet before b y → (a ≡ b) × (x ≡ y)
+one-convert version sheet before x y a b c d = (c .answers ∙ sym (d .answers), c .leaves ∙ sym (d .leaves))
+
+pub one-convert-c : (version : ℕ) (sheet before x y : List ℕ) (a b : ℕ) → ConvertC version sheet before a x → ConvertC version sheet before b y → (a ≡ b) × (x ≡ y)
+one-convert-c version sheet before x y a b c d = (c .answers ∙ sym (d .answers), c .leaves ∙ sym (d .leaves))
 
 pub one-report-text : (sheet : List ℕ) (a b : Text) → ReportText sheet a → ReportText sheet b → a ≡ b
 one-report-text sheet a b c d = c .answers ∙ sym (d .answers)

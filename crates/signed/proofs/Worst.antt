@@ -22,7 +22,6 @@ use Rattle.sheet.proofs.Checks.{admits}
 use Rattle.sheet.proofs.Carried.{reading-answer, by-reading}
 use Rattle.sheet.proofs.Analysable.{admitted-sheet-is-admitted}
 use Rattle.order.specs.Order.{priority-order}
-use Rattle.order.proofs.Laws.{ordered-admitted}
 use Rattle.analysis.specs.Times.{number-at}
 use Rattle.analysis.specs.Misses.{miss-by, miss-in}
 use Rattle.analysis.specs.declared.Miss.{Miss}
@@ -58,8 +57,7 @@ module _ (s : List ℕ) (checked : first-refusal (sheet-checks s) ≡ none) (p k
   bytes = script-of (worst-script (priority-order (policy-of s) tasks) tasks p k)
 
   names : IsMissed (set-of s) p (blocker (set-of s) p) × FirstWithout (set-of s) p k
-  names =
-      miss-names (set-of s) p k (λ q h. ordered-admitted (policy-of s) tasks (admitted-sheet-is-admitted s admitted-reading) .each-task q h .well-formed .has-frame) e
+  names = miss-names (set-of s) p k e
 
   reads : script-for s bytes ≡ worst-script (priority-order (policy-of s) tasks) tasks p k
   unfolding script-for

@@ -10,6 +10,7 @@ use Rattle.analysis.specs.Answers.{set-decision, set-left, sheet-decision, shee
 use Rattle.analysis.specs.declared.Decision.{Decision}
 use Rattle.lists.specs.Faces.{list-read, list-filled, list-written, list-left, list-analysed, list-times}
 use Rattle.lists.specs.declared.ListRead.{ListRead}
+use Rattle.converter.specs.Converting.{converted, converted-left}
 use Rattle.workbench.specs.Entry.{entry-number, entry-left}
 use Rattle.workbench.specs.Numbers.{read-number, written-number, decision-number, played-number, worst-number}
 use Rattle.worst.specs.Writing.{worst-answer, worst-left}
@@ -40,10 +41,15 @@ pub record ReadList (sheet : List ℕ) (before : List Record) (answer : ListRead
   pub answers : answer ≡ list-read sheet before
   pub leaves : after ≡ list-filled sheet before
 
--- `write_list`: a lent list of records to lent bytes
-pub record WriteList (policy : ℕ) (list : List Record) (before : List ℕ) (answer : Written) (after : List ℕ) : Type 0 where
-  pub answers : answer ≡ list-written policy list before
-  pub leaves : after ≡ list-left policy list before
+-- `write_list`: a lent list of records to lent bytes, in that version
+pub record WriteList (version policy : ℕ) (list : List Record) (before : List ℕ) (answer : Written) (after : List ℕ) : Type 0 where
+  pub answers : answer ≡ list-written version policy list before
+  pub leaves : after ≡ list-left version policy list before
+
+-- `convert`: a sheet of the other version to lent bytes, in that version
+pub record Convert (version : ℕ) (sheet before : List ℕ) (answer : Written) (after : List ℕ) : Type 0 where
+  pub answers : answer ≡ converted version sheet before
+  pub leaves : after ≡ converted-left version sheet before
 
 -- `report_text`: the text of a report
 pub record ReportText (sheet : List ℕ) (answer : Text) : Type 0 where
@@ -73,7 +79,7 @@ pub record CheckSheetC (sheet before : List ℕ) (number : ℕ) (after : List �
   pub answers : number ≡ entry-number sheet before
   pub leaves : after ≡ entry-left sheet before
 
--- `burrbeech_analyse_sheet`, `burrbeech_analyse_list`, `burrbeech_read_list`, `burrbeech_write_list`, `burrbeech_report`, `burrbeech_play`,
+-- `burrbeech_analyse_sheet`, `burrbeech_analyse_list`, `burrbeech_read_list`, `burrbeech_write_list`, `burrbeech_convert`, `burrbeech_report`, `burrbeech_play`,
 -- `burrbeech_trace`, `burrbeech_worst_run`: as the calls above, the answer by its number
 pub record AnalyseSheetC (sheet before : List ℕ) (number : ℕ) (after : List ℕ) : Type 0 where
   pub answers : number ≡ decision-number (sheet-decision sheet before)
@@ -87,9 +93,13 @@ pub record ReadListC (sheet : List ℕ) (before : List Record) (number : ℕ) (a
   pub answers : number ≡ read-number (list-read sheet before)
   pub leaves : after ≡ list-filled sheet before
 
-pub record WriteListC (policy : ℕ) (list : List Record) (before : List ℕ) (number : ℕ) (after : List ℕ) : Type 0 where
-  pub answers : number ≡ written-number (list-written policy list before)
-  pub leaves : after ≡ list-left policy list before
+pub record WriteListC (version policy : ℕ) (list : List Record) (before : List ℕ) (number : ℕ) (after : List ℕ) : Type 0 where
+  pub answers : number ≡ written-number (list-written version policy list before)
+  pub leaves : after ≡ list-left version policy list before
+
+pub record ConvertC (version : ℕ) (sheet before : List ℕ) (number : ℕ) (after : List ℕ) : Type 0 where
+  pub answers : number ≡ written-number (converted version sheet before)
+  pub leaves : after ≡ converted-left version sheet before
 
 pub record ReportC (sheet before : List ℕ) (number : ℕ) (after : List ℕ) : Type 0 where
   pub answers : number ≡ written-number (report-written sheet before)

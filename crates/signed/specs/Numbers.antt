@@ -6,7 +6,7 @@ use lib.Dec.{ltb, eqb}
 use lib.ListN.{getD}
 use Rattle.sheet.specs.declared.Reason.{Reason}
 use Rattle.sheet.specs.declared.Refusal.{Refusal}
-use Rattle.sheet.specs.declared.Refusal.the-variants.{Length, CheckWord, Version, Policy, BitSet, TaskCount, FrameCount, Records, IllFormed, Lock, NotMonotonic, Room}
+use Rattle.sheet.specs.declared.Refusal.the-variants.{Length, CheckWord, Version, Policy, BitSet, TaskCount, FrameCount, Records, IllFormed, Lock, NotMonotonic, Room, Deadlines}
 use Rattle.sheet.specs.declared.Written.{Written}
 use Rattle.sheet.specs.declared.Written.the-variants.{Bytes}
 use Rattle.sheet.specs.declared.Written.the-variants.{TurnedAway as not-written}
@@ -44,12 +44,13 @@ pub data IsNumber (n : ℕ) : ℕ → Type 0 where
   task-misses : (p b : ℕ) → p < n → b < n → IsNumber n (100 + 17 * p + b)
   task-misses-alone : (p : ℕ) → p < n → IsNumber n (100 + 17 * p + 16)
 
--- the refusal with a number from 1 to 12, of task i where it has one, for this reason where it gives one
+-- the refusal with the number 17 or one from 1 to 12, of task i where it has one, for this reason where it gives one
 unfoldable pub refusal-by : ℕ → ℕ → Reason → Refusal
 refusal-by number i why =
-    getD
+    cond (eqb number 17) Deadlines
+    (getD
     (Length ∷ CheckWord ∷ Version ∷ Policy ∷ BitSet ∷ TaskCount ∷ FrameCount i ∷ Records ∷ IllFormed i ∷ Lock i ∷ NotMonotonic i why ∷ Room ∷ [])
-    (number - 1) Room
+    (number - 1) Room)
 
 -- the reason in three times eight bits: the frame, the length, the other frame
 unfoldable pub reason-by : ℕ → Reason
@@ -60,13 +61,13 @@ reason-by c = record { frame = c % 256; length = c / 256 % 256; other = c / 6553
 unfoldable pub refused-by : ℕ → Refusal
 refused-by c = let detail = c / 256 in refusal-by (c % 256) (detail % 256) (reason-by (detail / 256))
 
--- `burrbeech_read_list`: the task count in eight bits of the detail, the policy in the next eight
+-- `burrbeech_read_list`: the task count in eight bits of the detail, the policy in the next eight, the version in the next
 unfoldable pub list-read-by : ℕ → ListRead
 list-read-by c =
     let detail = c / 256 in
-    cond (eqb (c % 256) 0) (Set (detail / 256 % 256) (detail % 256)) (not-read (refused-by c))
+    cond (eqb (c % 256) 0) (Set (detail / 65536 % 256) (detail / 256 % 256) (detail % 256)) (not-read (refused-by c))
 
--- `burrbeech_write_list` and `burrbeech_report`: the bytes written
+-- `burrbeech_write_list`, `burrbeech_convert` and `burrbeech_report`: the bytes written
 unfoldable pub written-by : ℕ → Written
 written-by c = cond (eqb (c % 256) 0) (Bytes (c / 256)) (not-written (refused-by c))
 

@@ -9,6 +9,7 @@ ghost use Rattle.signed.specs.Claims.{in-numbers, in-bytes, Signed, Outc
 ghost use Rattle.signed.specs.Numbers.{said-by, written-by, decision-by, played-by, worst-by};
 ghost use Rattle.signed.specs.Plays.{PlaySigned, TraceSigned};
 ghost use Rattle.signed.specs.WorstRuns.{WorstSigned};
+ghost use Rattle.signed.specs.Conversions.{ConvertSigned};
 ghost use Rattle.signed.specs.Reports.{words-in, said-in, text-in, ReportSigned, ReportLeft};
 use analysis::Decision;
 use lists::ListRead;
@@ -84,16 +85,28 @@ fn read_list_from_c(sheet: &[u8], list: &mut [Task]) -> u64
     workbench::burrbeech_read_list(sheet, list)
 }
 
-fn write_list(policy: u32, list: &[Task], sheet: &mut [u8]) -> Written
-    ensures { λ r. ⌜ WriteList policy (now (list .entry)) (now (sheet .entry)) r (now (sheet .exit)) ⌝ }
+fn write_list(version: u32, policy: u32, list: &[Task], sheet: &mut [u8]) -> Written
+    ensures { λ r. ⌜ WriteList version policy (now (list .entry)) (now (sheet .entry)) r (now (sheet .exit)) ⌝ }
 {
-    lists::write_list(policy, list, sheet)
+    lists::write_list(version, policy, list, sheet)
 }
 
-fn write_list_from_c(policy: u32, list: &[Task], sheet: &mut [u8]) -> u64
-    ensures { λ r. ⌜ WriteListC policy (now (list .entry)) (now (sheet .entry)) r (now (sheet .exit)) ⌝ }
+fn write_list_from_c(version: u32, policy: u32, list: &[Task], sheet: &mut [u8]) -> u64
+    ensures { λ r. ⌜ WriteListC version policy (now (list .entry)) (now (sheet .entry)) r (now (sheet .exit)) ⌝ }
 {
-    workbench::burrbeech_write_list(policy, list, sheet)
+    workbench::burrbeech_write_list(version, policy, list, sheet)
+}
+
+fn convert(version: u32, sheet: &[u8], out: &mut [u8]) -> Written
+    ensures { λ r. ⌜ ConvertSigned version (now (sheet .entry)) (now (out .entry)) r (now (out .exit)) ⌝ }
+{
+    converter::convert(version, sheet, out)
+}
+
+fn convert_from_c(version: u32, sheet: &[u8], out: &mut [u8]) -> u64
+    ensures { λ r. ⌜ ConvertSigned version (now (sheet .entry)) (now (out .entry)) (written-by r) (now (out .exit)) ⌝ }
+{
+    workbench::burrbeech_convert(version, sheet, out)
 }
 
 fn analyse_list(policy: u32, list: &[Task], times: &mut [u32]) -> Decision

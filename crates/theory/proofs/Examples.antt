@@ -1,6 +1,6 @@
 -- Some small sets and their runs, by computation: worst runs played, each run rule kept and broken. The scope's own sets are the table of crates/cases.
 use mathlib.Core.Bool.{true, false, _&&_}
-use mathlib.Core.List.{List, [], _∷_, List·Memᴰ·head}
+use mathlib.Core.List.{List, [], _∷_, map, List·Memᴰ·head}
 use mathlib.Core.Option.{Option, none, some}
 use mathlib.Core.Path.{_≡_, refl}
 use Prim.Native.Nat.{ℕ, zero, suc, _≤_, _<_}
@@ -27,9 +27,13 @@ runs = tt
 
 -- ---- small sets
 
+-- one deadline for all frames
+abbrev with-deadline : (T D Q : ℕ) → List ℕ → Task
+with-deadline T D Q frames = record { period = T; lock = Q; frames = frames; deadlines = map (λ c. D) frames }
+
 -- D = T and Q = 0
 abbrev plain : List ℕ → ℕ → Task
-plain frames T = record { period = T; deadline = T; lock = 0; frames = frames }
+plain frames T = with-deadline T T 0 frames
 
 -- f a, f (a + 1), .., n of them
 abbrev row : {X : Type 0} → (ℕ → X) → ℕ → ℕ → List X
@@ -38,7 +42,7 @@ row f a (suc n) = f a ∷ row f (suc a) n
 
 -- a task with a short deadline above one that locks for Q ticks
 abbrev locking : ℕ → List Task
-locking Q = record { period = 6; deadline = 4; lock = 0; frames = 2 ∷ [] } ∷ record { period = 9; deadline = 9; lock = Q; frames = 4 ∷ [] } ∷ []
+locking Q = with-deadline 6 4 0 (2 ∷ []) ∷ with-deadline 9 9 Q (4 ∷ []) ∷ []
 
 -- with a lock of 3 it holds, by blocking of 2
 abbrev short-lock : List Task

@@ -9,8 +9,8 @@ pub use Rattle.theory.proofs.Reason.{exceeded-test, reason-is, one-reas
 -- frames within the period: the work of ⌈t/T⌉ jobs is less than t + T
 pub use Rattle.theory.proofs.Work.{frame-in-period, period-positive, work-in-periods}
 pub use Rattle.theory.proofs.Demand.{released-less}
--- the shortest deadline
-pub use Rattle.theory.proofs.Work.{IsShortest, shortest-is}
+-- frames and deadlines at their places; the shortest deadline
+pub use Rattle.theory.proofs.Work.{frame-at, deadline-at, IsShortest, shortest-is}
 -- admitted, as a test
 pub use Rattle.theory.proofs.Tests.{admitted-task-is, admitted-is}
 -- blocking and blocker
@@ -21,9 +21,9 @@ pub use Rattle.theory.proofs.Demand.{releases-more, releases-mono, rele
 pub use Rattle.theory.proofs.Demand.{AtLeast, Within, nobody, extra, each, within-refl, demand-mono, demand-order}
 pub use Rattle.theory.proofs.Places.{sum-below, sum-zero, sum-suc, work-in, higher-work-sum}
 pub use Rattle.theory.proofs.Verdict.{demand-of-mono, demand-of-monotone, demand-of-least}
--- response: computed and as a relation; unique; no later for less demand; existence for the largest frame gives it for all
+-- response: computed and as a relation; unique; no later for less demand
 pub use Rattle.theory.proofs.Response.{response-is, no-response-is, response-unique, response-exists, response-less}
-pub use Rattle.theory.proofs.Verdict.{response-of-is, no-response-of-is, passes-frames, passes-if, fails-largest, fails-first}
+pub use Rattle.theory.proofs.Verdict.{response-of-is, no-response-of-is, passes-frames, passes-if, fails-first}
 -- the rounds: growing, below every solution, at the least one in the end; and the invariant of a loop over them
 pub use Rattle.theory.proofs.Response.{Monotone, rounds-grow, rounds-below, rounds-least, rounds-end, rounds-reach, rounds-pass}
 pub use Rattle.theory.proofs.Response.{MoreBelow, more-below-start, more-below-round, more-below-is, more-below-none}

@@ -6,8 +6,8 @@ use Prim.Native.Nat.{ℕ, _-_}
 use native.Mathlib.Nat.{ℕ-set}
 use native.Mathlib.Omega.{arith}
 use lib.ListN.{take}
-use Rattle.theory.specs.First.{found}
-use Rattle.theory.specs.Tasks.{Task, task-at, frame, deadline-of, largest, largest-frame}
+use Rattle.theory.specs.First.{every, found}
+use Rattle.theory.specs.Tasks.{Task, task-at, frame-count, frame, deadline-of, largest}
 use Rattle.theory.specs.Analysis.{lower, largest-lock, blocking, from-start, higher, demand, response, demand-of, response-of, passes}
 use Rattle.theory.proofs.Demand.{demand-order}
 
@@ -51,4 +51,6 @@ module _ {set : List Task} {p : ℕ} {set′ : List Task} {p′ : ℕ} (same : S
 
   pub passes-same : passes set p ≡ passes set′ p′
   unfolding passes
-  passes-same = ap found (response-of-same (largest-frame (task-at set p)) ∙ ap (λ u. response-of set′ p′ (largest-frame u)) (same .same-task))
+  passes-same =
+      ap (λ f. every 0 (frame-count (task-at set p)) f) (fun-ext (λ k. ap found (response-of-same k)))
+      ∙ ap (λ u. every 0 (frame-count u) (λ k. found (response-of set′ p′ k))) (same .same-task)

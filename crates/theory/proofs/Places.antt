@@ -12,7 +12,7 @@ use Rattle.theory.specs.Analysis.{Higher, from-start, higher, releases, 
 
 -- what stands past the end of a set
 abbrev pub zeros : Task
-zeros = record { period = 0; deadline = 0; lock = 0; frames = [] }
+zeros = record { period = 0; lock = 0; frames = []; deadlines = [] }
 
 -- the sum of f over the places below n
 unfoldable pub sum-below : ℕ → (ℕ → ℕ) → ℕ

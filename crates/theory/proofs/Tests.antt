@@ -6,8 +6,8 @@ use mathlib.Core.Option.{Option, none, some, Option·none-ne-some}
 use mathlib.Core.Path.{_≡_, refl, sym, _∙_}
 use Prim.Native.Nat.{ℕ, _≤_, _<_}
 use native.Mathlib.Omega.{arith}
-use borrow.Author.Tests.{leb-true, le-leb, ltb-true, lt-ltb}
-use lib.Dec.{leb, ltb}
+use borrow.Author.Tests.{leb-true, le-leb, ltb-true, lt-ltb, eqb-true, eq-eqb}
+use lib.Dec.{leb, ltb, eqb}
 use lib.ListN.{length}
 use Rattle.theory.specs.First.{first, every, found}
 use Rattle.theory.specs.Tasks.{Task, task-at, frame-count, frame, deadline-of, largest, qualifies, WellFormed, AdmittedTask, Admitted}
@@ -28,6 +28,9 @@ is-every n {test} f =
 pub is-leb : (a b : ℕ) → So (leb a b) ↔ (a ≤ b)
 is-leb a b = (leb-true a b, le-leb a b)
 
+pub is-eqb : (a b : ℕ) → So (eqb a b) ↔ (a ≡ b)
+is-eqb a b = (eqb-true a b, eq-eqb a b)
+
 is-ltb : (a b : ℕ) → So (ltb a b) ↔ (a < b)
 is-ltb a b = (ltb-true a b, lt-ltb a b)
 
@@ -35,23 +38,24 @@ is-ltb a b = (ltb-true a b, lt-ltb a b)
 
 unfoldable pub well-formed-test : Task → Bool
 well-formed-test t =
-    leb 1 (frame-count t)
+    (leb 1 (frame-count t) && eqb (length (t .deadlines)) (frame-count t))
     && every 0 (frame-count t) (λ k. leb 1 (frame t k) && (leb (frame t k) (deadline-of t k) && leb (deadline-of t k) (t .period)))
 
 pub well-formed-is : (t : Task) → (well-formed-test t ≡ true) ↔ WellFormed t
 unfolding well-formed-test
 well-formed-is t =
     Iff·trans
-    (is-and (is-leb 1 (frame-count t))
+    (is-and (is-and (is-leb 1 (frame-count t)) (is-eqb (length (t .deadlines)) (frame-count t)))
     (is-every (frame-count t) (λ k. is-and (is-leb 1 (frame t k)) (is-and (is-leb (frame t k) (deadline-of t k)) (is-leb (deadline-of t k) (t .period)))))) (
       λ h.
           record {
-            has-frame = h .0;
+            has-frame = h .0 .0;
+            each-deadline = h .0 .1;
             frame-positive = λ k l. h .1 k l .0;
             frame-in-deadline = λ k l. h .1 k l .1 .0;
             deadline-in-period = λ k l. h .1 k l .1 .1;
           },
-      λ w. (w .has-frame, λ k l. (w .frame-positive k l, (w .frame-in-deadline k l, w .deadline-in-period k l))),
+      λ w. ((w .has-frame, w .each-deadline), λ k l. (w .frame-positive k l, (w .frame-in-deadline k l, w .deadline-in-period k l))),
     )
 
 unfoldable pub admitted-task-test : Task → Bool

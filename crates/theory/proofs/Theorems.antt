@@ -8,12 +8,11 @@ use mathlib.Core.Path.{_≡_}
 use Prim.Native.Nat.{ℕ, _≤_, _<_}
 use native.Mathlib.Nat.{lt-irrefl, not-le-of-lt}
 use lib.ListN.{length}
-use Rattle.theory.specs.Tasks.{Task, task-at, frame-count, largest-frame, deadline-of, Admitted}
+use Rattle.theory.specs.Tasks.{Task, task-at, frame-count, deadline-of, Admitted}
 use Rattle.theory.specs.Analysis.{demand-of, response-of, passes, FirstWithout, holds, missed, verdict}
 use Rattle.theory.specs.Runs.{Run, Legal, TakesLonger, Takes, Misses}
 use Rattle.theory.specs.WorstRun.{worst-run}
-use Rattle.theory.proofs.Work.{largest-is}
-use Rattle.theory.proofs.Verdict.{Way, all-pass, one-fails, way, IsMissed, verdict-holds, verdict-missed, passes-frames, fails-largest, fails-first, response-of-is}
+use Rattle.theory.proofs.Verdict.{Way, all-pass, one-fails, way, IsMissed, verdict-holds, verdict-missed, passes-frames, fails-first, response-of-is}
 use Rattle.theory.proofs.Soundness.{takes-less, enough-by-demand, periods-above, takes-less-than-response}
 use Rattle.theory.proofs.WorstLegal.{worst-legal}
 use Rattle.theory.proofs.WorstExact.{worst-exact, worst-misses}
@@ -84,17 +83,8 @@ pub failing-first-misses : (set : List Task) → Admitted set
     → (p : ℕ) → p < length set → passes set p ≡ false
     → (k : ℕ) × FirstWithout set p k × Legal set (worst-run set p k) × Misses set (worst-run set p k) p 1 k
 failing-first-misses set admitted p in-set fails =
-    let (k, first) = fails-first set p (admitted .each-task p in-set .well-formed .has-frame) fails in
+    let (k, first) = fails-first set p fails in
     (k, first, worst-run-legal set admitted p k in-set (first .frame-in), worst-run-misses set admitted p k in-set (first .frame-in) (first .without))
-
--- For a task that does not pass, the worst run of its largest frame, too, is a legal run in which that job misses.
-pub failing-largest-misses : (set : List Task) → Admitted set
-    → (p : ℕ) → p < length set → passes set p ≡ false
-    → Legal set (worst-run set p (largest-frame (task-at set p)))
-    × Misses set (worst-run set p (largest-frame (task-at set p))) p 1 (largest-frame (task-at set p))
-failing-largest-misses set admitted p in-set fails =
-    let k-in : largest-frame (task-at set p) < frame-count (task-at set p) = largest-is (task-at set p) (admitted .each-task p in-set .well-formed .has-frame) .largest-in in
-    (worst-run-legal set admitted p _ in-set k-in, worst-run-misses set admitted p _ in-set k-in (fails-largest set p fails))
 
 -- So the task that the verdict names is a task of the set, and the worst run of its first frame without a response time is a legal run in which
 -- that job, released at tick 1, misses.

@@ -3,19 +3,19 @@ use mathlib.Core.Bool.{Bool, true, false, not, true≢false}
 use mathlib.Core.List.{List}
 use mathlib.Core.Logic.{_↔_}
 use mathlib.Core.Option.{Option, none, some}
-use mathlib.Core.Path.{_≡_, refl, sym, _∙_, ap, subst₂}
-use Prim.Native.Nat.{ℕ, suc, _+_, _≤_, _<_}
-use native.Mathlib.Nat.{le-refl, le-antisymm}
+use mathlib.Core.Path.{_≡_, refl, sym, _∙_, ap, ap₂, subst₂}
+use Prim.Native.Nat.{ℕ, suc, _+_, _%_, _≤_, _<_, zero-le}
+use native.Mathlib.Nat.{le-refl, le-antisymm, mod-lt}
 use native.Mathlib.Omega.{arith}
 use borrow.Author.Tests.{not-true, not-false}
 use lib.ListN.{length}
 use Rattle.theory.specs.First.{first, found}
-use Rattle.theory.specs.Tasks.{Task, task-at, frame-count, frame, deadline-of, largest-frame}
-use Rattle.theory.specs.Analysis.{lower, blocking, blocker, higher, IsResponse, demand-of, response-of, rounds-of, passes, FirstWithout, holds, missed, verdict}
-use Rattle.theory.proofs.Search.{IsFirst, first-some, first-none, first-exists, found-some, found-none, some-found, none-found, Answer, answer, nothing, it-is}
-use Rattle.theory.proofs.Work.{largest-is, frame-le-largest-frame}
+use Rattle.theory.specs.Tasks.{Task, task-at, frame-count, frame, deadline-of}
+use Rattle.theory.specs.Analysis.{lower, blocking, blocker, higher, demand, IsResponse, response, demand-of, response-of, rounds-of, passes, FirstWithout, holds, missed, verdict}
+use Rattle.theory.proofs.Search.{IsFirst, first-some, first-none, every-at, every-is, found-some, found-none, some-found, Answer, answer, nothing, it-is}
+use Rattle.theory.proofs.Work.{frame-mod, deadline-mod}
 use Rattle.theory.proofs.Demand.{within-refl, demand-mono, demand-least}
-use Rattle.theory.proofs.Response.{Monotone, response-is, no-response-is, response-less, rounds-reach, rounds-pass}
+use Rattle.theory.proofs.Response.{Monotone, response-is, no-response-is, rounds-reach, rounds-pass}
 
 module _ (set : List Task) (p : ℕ) where
   -- a larger frame of the task at a later time has no less demand
@@ -39,43 +39,43 @@ module _ (set : List Task) (p : ℕ) where
   unfolding response-of
   no-response-of-is k = no-response-is (demand-of set p k) (deadline-of (task-at set p) k)
 
-  -- a response time of the largest frame gives one to every frame
+  -- frames are counted going round
+  pub response-of-mod : (k : ℕ) → response-of set p (k % frame-count (task-at set p)) ≡ response-of set p k
+  unfolding response-of demand-of
+  response-of-mod k =
+      ap₂ (λ (own D : ℕ). response (demand (blocking (lower set p)) own (higher set p)) D) (frame-mod (task-at set p) k) (deadline-mod (task-at set p) k)
+
+  -- of a task that passes every frame has a response time
   pub passes-frames : 1 ≤ frame-count (task-at set p) → passes set p ≡ true → (k : ℕ) → (t : ℕ) × (response-of set p k ≡ some t)
-  unfolding passes deadline-of
+  unfolding passes
   passes-frames h e k =
-      let (u, q) = found-some e in
-      let (t, r, l) =
-      response-less {f = demand-of set p k}
-      (λ t. demand-of-mono k (largest-frame (task-at set p)) (frame-le-largest-frame (task-at set p) h k) t t (le-refl t))
-      (le-refl _)
-      (response-of-is (largest-frame (task-at set p)) .0 q)
-      in
-      (t, response-of-is k .1 r)
+      let m = frame-count (task-at set p) in
+      let (t, r) = found-some (every-at 0 m (λ j. found (response-of set p j)) e (k % m) zero-le (omega (arith, mod-lt k h))) in
+      (t, sym (response-of-mod k) ∙ r)
 
-  pub passes-if : {t : ℕ} → response-of set p (largest-frame (task-at set p)) ≡ some t → passes set p ≡ true
+  pub passes-if : ((k : ℕ) → k < frame-count (task-at set p) → (t : ℕ) × (response-of set p k ≡ some t)) → passes set p ≡ true
   unfolding passes
-  passes-if e = some-found e
-
-  pub fails-largest : passes set p ≡ false → response-of set p (largest-frame (task-at set p)) ≡ none
-  unfolding passes
-  fails-largest e = found-none e
+  passes-if have = every-is 0 (frame-count (task-at set p)) _ (λ k _ h. some-found (have k (omega arith) .1))
 
   -- a task that does not pass has a first frame without a response time
-  pub fails-first : 1 ≤ frame-count (task-at set p) → passes set p ≡ false → (k : ℕ) × FirstWithout set p k
-  fails-first h e =
-      let largest : largest-frame (task-at set p) < frame-count (task-at set p) = largest-is (task-at set p) h .largest-in in
-      let (k, q, _) = first-exists 0 (frame-count (task-at set p)) has-none (largest-frame (task-at set p)) (omega arith) (omega arith) (rw (none-found (fails-largest e))) in
-      let f : IsFirst 0 (frame-count (task-at set p)) has-none k = first-some 0 (frame-count (task-at set p)) has-none q in (
-        k,
-        record {
-          frame-in = omega (arith, f .before);
-          without = found-none (not-true _ (f .passes));
-          earlier-have = λ j l. found-some (not-false _ (f .earlier j (omega arith) l));
-        },
-      )
+  pub fails-first : passes set p ≡ false → (k : ℕ) × FirstWithout set p k
+  fails-first e = go (answer (first 0 (frame-count (task-at set p)) has-none))
     where
       has-none : ℕ → Bool
       has-none k = not (found (response-of set p k))
+
+      go : Answer (first 0 (frame-count (task-at set p)) has-none) → (k : ℕ) × FirstWithout set p k
+      go (nothing q) =
+          absurd (true≢false (sym (passes-if (λ k l. found-some (not-false _ (first-none 0 (frame-count (task-at set p)) has-none q k zero-le (omega arith))))) ∙ e))
+      go (it-is k q) =
+          let f : IsFirst 0 (frame-count (task-at set p)) has-none k = first-some 0 (frame-count (task-at set p)) has-none q in (
+            k,
+            record {
+              frame-in = omega (arith, f .before);
+              without = found-none (not-true _ (f .passes));
+              earlier-have = λ j l. found-some (not-false _ (f .earlier j zero-le l));
+            },
+          )
 
   -- the rounds reach the response time; without one they pass the deadline
   module _ (k : ℕ) (positive : 1 ≤ frame (task-at set p) k) where

@@ -6,7 +6,7 @@ use mathlib.Core.Option.{some}
 use mathlib.Core.Path.{_≡_, refl, sym, _∙_, ap}
 use Prim.Native.Nat.{ℕ, zero, suc, _+_, _*_, _%_, _≤_, _<_}
 use native.Mathlib.Decide.{decLe}
-use native.Mathlib.Nat.{add-zero, add-suc, add-assoc, add-comm, zero-mul, suc-mul, le-refl, le-trans, le-antisymm, mod-mod, suc-mod, mod-lt, mod-add-mod, add-mod-right, mod-eq-of-lt, div-add-mod', le-max-left, le-max-right, max-eq-left, max-eq-right, max-zero, zero-add, le-dest, le-add-right, add-le-add, add-left-cancel}
+use native.Mathlib.Nat.{add-zero, add-suc, add-assoc, add-comm, zero-mul, suc-mul, le-refl, le-trans, le-antisymm, mod-mod, suc-mod, mod-lt, mod-add-mod, add-mod-right, mod-eq-of-lt, div-add-mod', le-max-left, le-max-right, max-eq-left, max-eq-right, max-zero, min-le-left, min-le-right, min-eq-left, min-eq-right, zero-add, le-dest, le-add-right, add-le-add, add-left-cancel}
 use native.Mathlib.Numerals.{add-one, one-add}
 use native.Mathlib.Omega.{arith}
 use borrow.Author.Tests.{leb-true, le-leb, eqb-true, eqb-false, eq-eqb}
@@ -14,7 +14,7 @@ use lib.Arith.{lt-of-le-ne}
 use lib.Dec.{leb, eqb}
 use lib.ListN.{length, getD}
 use Rattle.theory.specs.First.{first, every, found}
-use Rattle.theory.specs.Tasks.{Task, frame-count, next-frame, frame, deadline-of, shortest-deadline, work, largest, largest-frame, Qualifies, qualifies, start-frame, WellFormed, Monotonic}
+use Rattle.theory.specs.Tasks.{Task, frame-count, next-frame, frame, deadline-of, smallest, shortest-deadline, work, largest, largest-frame, Qualifies, qualifies, start-frame, WellFormed, Monotonic}
 use Rattle.theory.proofs.Search.{found-some, some-found, IsFirst, first-some, first-exists, every-at, every-is}
 
 module _ (t : Task) where
@@ -27,6 +27,19 @@ module _ (t : Task) where
   pub frame-round : (k : ℕ) → frame t (k + frame-count t) ≡ frame t k
   unfolding frame
   frame-round k = rw add-mod-right
+
+  pub deadline-mod : (k : ℕ) → deadline-of t (k % frame-count t) ≡ deadline-of t k
+  unfolding deadline-of
+  deadline-mod k = rw mod-mod
+
+  -- a frame below the count is the one at that place of the list, and so is its deadline
+  pub frame-at : (k : ℕ) → k < frame-count t → frame t k ≡ getD (t .frames) k 0
+  unfolding frame
+  frame-at k h = rw (mod-eq-of-lt h)
+
+  pub deadline-at : (k : ℕ) → k < frame-count t → deadline-of t k ≡ getD (t .deadlines) k 0
+  unfolding deadline-of
+  deadline-at k h = rw (mod-eq-of-lt h)
 
   pub next-frame-lt : (k : ℕ) → 1 ≤ frame-count t → next-frame t k < frame-count t
   unfolding next-frame
@@ -239,14 +252,38 @@ work-in-periods t {T} within s (suc n) = rw (work-suc t s n, suc-mul n T) (add-l
 
 -- ---- the shortest deadline
 
+pub smallest-le : (ds : List ℕ) (i : ℕ) → i < length ds → smallest ds ≤ getD ds i 0
+unfolding smallest
+smallest-le [] i h = let z : ⊥ = omega arith in absurd z
+smallest-le (d ∷ []) zero h = le-refl d
+smallest-le (d ∷ []) (suc i) h = let z : ⊥ = omega arith in absurd z
+smallest-le (d ∷ e ∷ ds) zero h = min-le-left d (smallest (e ∷ ds))
+smallest-le (d ∷ e ∷ ds) (suc i) h = le-trans (min-le-right d (smallest (e ∷ ds))) (smallest-le (e ∷ ds) i (omega arith))
+
+pub smallest-stands : (ds : List ℕ) → 1 ≤ length ds → (i : ℕ) × (i < length ds) × (getD ds i 0 ≡ smallest ds)
+unfolding smallest
+smallest-stands [] h = let z : ⊥ = omega arith in absurd z
+smallest-stands (d ∷ []) h = (0, omega arith, refl)
+smallest-stands (d ∷ e ∷ ds) h = go (smallest-stands (e ∷ ds) (omega arith)) (decLe d (smallest (e ∷ ds)))
+  where
+    go : (i : ℕ) × (i < length (e ∷ ds)) × (getD (e ∷ ds) i 0 ≡ smallest (e ∷ ds)) → Dec (d ≤ smallest (e ∷ ds))
+        → (i : ℕ) × (i < length (d ∷ e ∷ ds)) × (getD (d ∷ e ∷ ds) i 0 ≡ smallest (d ∷ e ∷ ds))
+    go (i, l, q) (yes h) = (0, omega arith, sym (min-eq-left h))
+    go (i, l, q) (no h) = (suc i, omega arith, q ∙ sym (min-eq-right (omega arith)))
+
 pub record IsShortest (t : Task) (d : ℕ) : Type 0 where
   pub no-longer : (k : ℕ) → k < frame-count t → d ≤ deadline-of t k
-  pub of-a-frame : 1 ≤ frame-count t → (k : ℕ) × (k < frame-count t) × (deadline-of t k ≡ d)
+  pub of-a-frame : (k : ℕ) × (k < frame-count t) × (deadline-of t k ≡ d)
 
 -- it is some frame's deadline, and no frame has a shorter one
-pub shortest-is : (t : Task) → IsShortest t (shortest-deadline t)
-unfolding deadline-of shortest-deadline
-shortest-is t = record { no-longer = λ k h. le-refl _; of-a-frame = λ h. (0, h, refl) }
+pub shortest-is : (t : Task) → WellFormed t → IsShortest t (shortest-deadline t)
+unfolding shortest-deadline
+shortest-is t w =
+    let (i, l, e) = smallest-stands (t .deadlines) (omega (arith, w .has-frame, w .each-deadline)) in
+    record {
+      no-longer = λ k h. rw (deadline-at t k h) (smallest-le (t .deadlines) k (omega (arith, w .each-deadline)));
+      of-a-frame = (i, omega (arith, w .each-deadline), deadline-at t i (omega (arith, w .each-deadline)) ∙ e);
+    }
 
 -- ---- more in each frame is more work
 

@@ -6,8 +6,8 @@ use mathlib.Core.Path.{_≡_}
 use Prim.Native.Nat.{ℕ, zero, suc, _+_, _-_, _/_, _≤_, _<_}
 use lib.Dec.{leb}
 use lib.ListN.{length, take, drop}
-use Rattle.theory.specs.First.{first, found}
-use Rattle.theory.specs.Tasks.{Task, task-at, frame-count, frame, work, largest, largest-frame, start-frame, deadline-of}
+use Rattle.theory.specs.First.{first, every, found}
+use Rattle.theory.specs.Tasks.{Task, task-at, frame-count, frame, work, largest, start-frame, deadline-of}
 
 -- the tasks of lower priority than place p
 unfoldable pub lower : List Task → ℕ → List Task
@@ -80,9 +80,9 @@ response-of set p k = response (demand-of set p k) (deadline-of (task-at set p) 
 unfoldable pub rounds-of : List Task → ℕ → ℕ → ℕ → ℕ
 rounds-of set p k = after-rounds (demand-of set p k) (blocking (lower set p) + frame (task-at set p) k)
 
--- a task passes if its largest frame has a response time
+-- a task passes if every frame has a response time within its own deadline
 unfoldable pub passes : List Task → ℕ → Bool
-passes set p = found (response-of set p (largest-frame (task-at set p)))
+passes set p = every 0 (frame-count (task-at set p)) (λ k. found (response-of set p k))
 
 -- k is the first frame of the task at place p without a response time
 pub record FirstWithout (set : List Task) (p k : ℕ) : Type 0 where

@@ -2,21 +2,22 @@
 use mathlib.Core.Bool.{Bool}
 use mathlib.Core.List.{List, [], _∷_}
 use mathlib.Core.Option.{Option·getD}
-use Prim.Native.Nat.{ℕ, zero, suc, _+_, _%_, _≤_, _<_, max}
+use mathlib.Core.Path.{_≡_}
+use Prim.Native.Nat.{ℕ, zero, suc, _+_, _%_, _≤_, _<_, min, max}
 use lib.Dec.{leb, eqb}
 use lib.ListN.{length, getD}
 use Rattle.theory.specs.First.{first, every}
 
--- a task: the least distance of its releases, the time a job may take, the longest locked stretch, the times of its frames
+-- a task: the least distance of its releases, the longest locked stretch, and frame by frame the time of a job and how long it may take
 pub record Task : Type 0 where
   pub period : ℕ
-  pub deadline : ℕ
   pub lock : ℕ
   pub frames : List ℕ
+  pub deadlines : List ℕ
 
 -- the task at a place of a list in priority order (place 0 is highest); past the list, a task of zeros that nothing reads
 unfoldable pub task-at : List Task → ℕ → Task
-task-at set p = getD set p (record { period = 0; deadline = 0; lock = 0; frames = [] })
+task-at set p = getD set p (record { period = 0; lock = 0; frames = []; deadlines = [] })
 
 -- the number of frames
 unfoldable pub frame-count : Task → ℕ
@@ -30,13 +31,19 @@ next-frame t k = suc k % frame-count t
 unfoldable pub frame : Task → ℕ → ℕ
 frame t k = getD (t .frames) (k % frame-count t) 0
 
--- the deadline of frame k: every frame has the task's one
+-- the deadline of frame k, going round the list
 unfoldable pub deadline-of : Task → ℕ → ℕ
-deadline-of t k = t .deadline
+deadline-of t k = getD (t .deadlines) (k % frame-count t) 0
+
+-- the smallest number of a list; 0 where there is none
+unfoldable pub smallest : List ℕ → ℕ
+smallest [] = 0
+smallest (d ∷ []) = d
+smallest (d ∷ e ∷ ds) = min d (smallest (e ∷ ds))
 
 -- the shortest deadline of a task's frames
 unfoldable pub shortest-deadline : Task → ℕ
-shortest-deadline t = t .deadline
+shortest-deadline t = smallest (t .deadlines)
 
 -- the work of n jobs from frame k: the sum of n frames, going round
 unfoldable pub work : Task → ℕ → ℕ → ℕ
@@ -64,9 +71,10 @@ qualifies t s = every 1 (frame-count t) (λ n. every 0 (frame-count t) (λ k. le
 unfoldable pub start-frame : Task → ℕ
 start-frame t = Option·getD (first 0 (frame-count t) (qualifies t)) 0
 
--- well formed: there is a frame, and each frame takes at least one tick, at most its deadline, and that at most the period
+-- well formed: there is a frame, each has a deadline, takes at least one tick, at most its deadline, and that is at most the period
 pub record WellFormed (t : Task) : Type 0 where
   pub has-frame : 1 ≤ frame-count t
+  pub each-deadline : length (t .deadlines) ≡ frame-count t
   pub frame-positive : (k : ℕ) → k < frame-count t → 1 ≤ frame t k
   pub frame-in-deadline : (k : ℕ) → k < frame-count t → frame t k ≤ deadline-of t k
   pub deadline-in-period : (k : ℕ) → k < frame-count t → deadline-of t k ≤ t .period

@@ -3,3 +3,4 @@ pub mod Four
 pub mod Answers
 pub mod Small
 pub mod Numbered
+pub mod NumberedTold

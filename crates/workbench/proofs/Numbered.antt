@@ -37,16 +37,21 @@ use Rattle.lists.proofs.Handed.{taken}
 use Rattle.lists.proofs.Records.{Value}
 use Rattle.lists.proofs.Walk.{calls-told, calls-value}
 
+-- the function from an answer to its number
+module _ (R : Value) where
+  abbrev pub numbers : Ended
+  numbers = record { signature = record { lifetimes = 0; outlives = []; params = plain (λ _. R .row) ∷ []; result = plain (λ _. u64) }; kept = (yes, tt) }
+
+  abbrev pub numbers-clauses : (R .row .Denot → ℕ) → {M : Type 1} (𝓤 : URA M) → Clauses 𝓤 numbers
+  numbers-clauses code 𝓤 κs a = record { ghost = Unit {0}; requires = λ _. fact 𝓤 (code (a .0) < 2 ^ 64); ensures = λ _ r e. fact 𝓤 (r ≡ code (a .0)) }
+
 module _ (E : RattleType) (ε : Ty) (R : Value) where
-  -- the entry, and the function from an answer to its number
+  -- the entry
   abbrev pub entry : Ended
   entry = record {
     signature = record { lifetimes = 2; outlives = []; params = taken E ε R .signature .params; result = plain (λ _. u64) };
     kept = (yes, (yes, (yes, tt)));
   }
-
-  abbrev pub numbers : Ended
-  numbers = record { signature = record { lifetimes = 0; outlives = []; params = plain (λ _. R .row) ∷ []; result = plain (λ _. u64) }; kept = (yes, tt) }
 
   -- the MIR: the keys of the two functions are its parameters
   abbrev pub function : Name → Name → Fn
@@ -76,9 +81,6 @@ module _ (E : RattleType) (ε : Ty) (R : Value) where
       (small : (policy : ℕ) (list : List Task) (memory : List (E .Denot)) → code (said policy list memory) < 2 ^ 64) where
     abbrev pub entry-clauses : {M : Type 1} (𝓤 : URA M) → Clauses 𝓤 entry
     entry-clauses 𝓤 κs a = record { ghost = Unit {0}; requires = λ _. emp 𝓤; ensures = λ _ r e. fact 𝓤 ((r ≡ code (said (a .0) (now (a .1 .0)) (now (a .1 .1 .0)))) × (now (e .1 .1 .0) ≡ left (a .0) (now (a .1 .0)) (now (a .1 .1 .0)))) }
-
-    abbrev pub numbers-clauses : {M : Type 1} (𝓤 : URA M) → Clauses 𝓤 numbers
-    numbers-clauses 𝓤 κs a = record { ghost = Unit {0}; requires = λ _. fact 𝓤 (code (a .0) < 2 ^ 64); ensures = λ _ r e. fact 𝓤 (r ≡ code (a .0)) }
 
     abbrev answers-clauses : {M : Type 1} (𝓤 : URA M) → Clauses 𝓤 (taken E ε R)
     answers-clauses 𝓤 = λ κs a. record { ghost = Unit {0}; requires = λ _. emp 𝓤; ensures = λ _ r e. fact 𝓤 ((r ≡ said (a .0) (now (a .1 .0)) (now (a .1 .1 .0))) × (now (e .1 .1 .0) ≡ left (a .0) (now (a .1 .0)) (now (a .1 .1 .0)))) }
@@ -120,7 +122,7 @@ module _ (E : RattleType) (ε : Ty) (R : Value) where
           suffices ! _ (ends-at 𝓤 H A entry stayed (entry-clauses 𝓤) W bound (vint w64 (code w)) (code w) (tt, (tt, (zs, tt))) (tt, (tt, (l, tt)))) $ says ! (refl, e) $
           frame ! $ nothing ! $ move ! (1 ∷ 0 ∷ []) $ fjoin ! $ nothing ! $ fjoin ! $ nothing ! $ fjoin ! $ frame ! $ owned ! u64 (Is u64) (uint-makes 𝓤 H A W w64) (code w) _ (refl, fits) $ done !
 
-      walk : (#answers #number : Name) (𝓣 : Tables 𝓤 H) → Triple 𝓤 (𝓣 .C #answers) (tripleOf 𝓤 H A (taken E ε R .signature) (closing 𝓤 H A (taken E ε R) (answers-clauses 𝓤))) → Triple 𝓤 (𝓣 .C #number) (tripleOf 𝓤 H A (numbers .signature) (closing 𝓤 H A numbers (numbers-clauses 𝓤)))
+      walk : (#answers #number : Name) (𝓣 : Tables 𝓤 H) → Triple 𝓤 (𝓣 .C #answers) (tripleOf 𝓤 H A (taken E ε R .signature) (closing 𝓤 H A (taken E ε R) (answers-clauses 𝓤))) → Triple 𝓤 (𝓣 .C #number) (tripleOf 𝓤 H A (numbers R .signature) (closing 𝓤 H A (numbers R) (numbers-clauses R code 𝓤)))
           → ent 𝓤 (onEntry 𝓤 H A (entry .signature) (κ, (κ′, tt)) (q, (q′, tt)) a vals) (WpFn 𝓤 H (𝓣 .C) (𝓣 .Λ) (function #answers #number) (vint w32 policy ∷ s ∷ s′ ∷ []) Post)
       walk #answers #number 𝓣 known-answers known-number =
           qed W ((‵ (flft κ q) ⊛ (‵ (flft κ′ q′) ⊛ ‵ ftrue)) ∷ ‵ (owns (u32 ∷ ShrSlice (named 0) κ T.the-row ∷ MutSlice (named 1) κ′ E ∷ []) a vals) ∷ []) ∵ enter ! (𝓣 .C) (𝓣 .Λ) (function #answers #number) (vint w32 policy ∷ s ∷ s′ ∷ []) _ $
@@ -134,7 +136,7 @@ module _ (E : RattleType) (ε : Ty) (R : Value) where
           (λ z ws. (z ≡ w) × (ws .1 .1 .0 ≡ left policy (x .now) (y .now))) (λ z ws. id⊢ 𝓤 _) w (λ z ws e. e .0) (R .val) (R .tells)
           (and-then ! (load ! (from ! (stop !)) (look ! 11 refl)) (and-then ! (load ! (from ! (stop !)) (look ! 9 refl)) (and-then ! (load ! (from ! (stop !)) (look ! 1 refl)) (no-more !)))) (λ ws e is.
           land ! (from ! (stop !)) (init ! 6 refl (R .typed 𝓤 H A W w is)) $
-          calls-value ! (fmOf 𝓤 H (W .laws) 𝓣) numbers (numbers-clauses 𝓤) known-number (tt, tt, tt, (w, tt), (R .val w ∷ [], tt)) tt (factI 𝓤 (code w < 2 ^ 64) (emp 𝓤) fits) (id⊢ 𝓤 _) (R .makes 𝓤 H A W, tt) (is, tt)
+          calls-value ! (fmOf 𝓤 H (W .laws) 𝓣) (numbers R) (numbers-clauses R code 𝓤) known-number (tt, tt, tt, (w, tt), (R .val w ∷ [], tt)) tt (factI 𝓤 (code w < 2 ^ 64) (emp 𝓤) fits) (id⊢ 𝓤 _) (R .makes 𝓤 H A W, tt) (is, tt)
           (λ z. z ≡ code w) (λ z ws. id⊢ 𝓤 _) (code w) (λ z e. e) (vint w64) (uint-tells w64) (and-then ! (load ! (from ! (stop !)) (look ! 7 refl)) (no-more !)) (λ _.
           land ! (from ! (stop !)) (init ! 14 refl (tt, record { fits = fits })) $
           -- [the tokens; the last values; _6; …]
@@ -145,7 +147,7 @@ module _ (E : RattleType) (ε : Ty) (R : Value) where
           keep ! (2 ∷ 0 ∷ []) $ by ! (exits (ws .1 .1 .0) (e .1) l)))))))))))
 
     module _ {M : Type 1} (𝓤 : URA M) (H : Heap 𝓤) (A : Atoms 𝓤) (W : Given 𝓤 H A) (#answers #number : Name) (𝓣 : Tables 𝓤 H)
-        (known-answers : Triple 𝓤 (𝓣 .C #answers) (tripleOf 𝓤 H A (taken E ε R .signature) (closing 𝓤 H A (taken E ε R) (answers-clauses 𝓤)))) (known-number : Triple 𝓤 (𝓣 .C #number) (tripleOf 𝓤 H A (numbers .signature) (closing 𝓤 H A numbers (numbers-clauses 𝓤)))) where
+        (known-answers : Triple 𝓤 (𝓣 .C #answers) (tripleOf 𝓤 H A (taken E ε R .signature) (closing 𝓤 H A (taken E ε R) (answers-clauses 𝓤)))) (known-number : Triple 𝓤 (𝓣 .C #number) (tripleOf 𝓤 H A (numbers R .signature) (closing 𝓤 H A (numbers R) (numbers-clauses R code 𝓤)))) where
       walks : Walks 𝓤 H A entry stayed (WpFn 𝓤 H (𝓣 .C) (𝓣 .Λ) (function #answers #number)) (entry-clauses 𝓤)
       walks = walked 𝓤 H A entry stayed (entry-clauses 𝓤) (WpFn 𝓤 H (𝓣 .C) (𝓣 .Λ) (function #answers #number))
           (λ κs. (uint-vals w32, (slice-vals, (slice-vals, tt)))) (λ κs. (uint-tells w32, (shr-slice-tells (named 0) (κs .0) T.the-row, (mut-slice-tells (named 1) (κs .1 .0) E, tt))))

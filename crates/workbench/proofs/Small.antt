@@ -22,11 +22,12 @@ use Rattle.lent.specs.Lent.{answered}
 use Rattle.lent.proofs.Checks.{Each, each-first}
 use Rattle.lent.proofs.Laid.{laid-to-length, laid-most}
 use Rattle.lent.proofs.Lent.{Told, turned-away, is-done, told, each-refusal}
-use Rattle.sheet.specs.Admission.{decided, admission, list-checks, reason-of}
-use Rattle.sheet.specs.Reading.{sheet-checks, policy-of, tasks-of}
-use Rattle.sheet.specs.Writing.{writing, written}
+use Rattle.sheet.specs.Admission.{decided, list-checks, reason-of}
+use Rattle.sheet.specs.Fields.{own-deadlines}
+use Rattle.sheet.specs.Reading.{sheet-checks, version-of, policy-of, tasks-of}
+use Rattle.sheet.specs.Writing.{writing-checks, writing, written}
 use Rattle.sheet.specs.declared.Refusal.{Refusal}
-use Rattle.sheet.specs.declared.Refusal.the-variants.{Length, CheckWord, Version, Policy, BitSet, TaskCount, FrameCount, Records, IllFormed, Lock, Room}
+use Rattle.sheet.specs.declared.Refusal.the-variants.{Length, CheckWord, Version, Policy, BitSet, TaskCount, FrameCount, Records, IllFormed, Lock, Room, Deadlines}
 use Rattle.sheet.specs.declared.Answer.the-variants.{Admitted}
 use Rattle.sheet.proofs.Analysable.{admitted-sheet-is-admitted}
 use Rattle.sheet.proofs.Checks.{admits}
@@ -45,13 +46,17 @@ use Rattle.analysis.specs.Answers.{refused-decision, analysing, set-analysing, 
 use Rattle.analysis.specs.declared.Decision.{Decision}
 use Rattle.analysis.proofs.Numbering.{number-in}
 use Rattle.theory.proofs.Laws.{reason-within}
-use Rattle.sheet.proofs.Refused.{Covers, list-each, sheet-each}
-use Rattle.sheet.proofs.Carried.{by-reading}
+use Rattle.sheet.proofs.Refused.{Covers, list-each, sheet-each, writing-each}
+use Rattle.sheet.proofs.RoundTrip.{version-small}
+use Rattle.sheet.proofs.WhatIsWritten.{passed-checks}
+use Rattle.sheet.proofs.Carried.{by-reading, passed-sheet}
 use Rattle.sheet.proofs.Carried.{reading-answer as answer-read}
 use Rattle.records.proofs.Packing.{value-taken}
 use Rattle.sheet.proofs.RecordBits.{length-tasks-in}
 use Rattle.sheet.proofs.Sizes.{admitted-size}
 use Rattle.lists.specs.Lists.{gathered-of}
+use Rattle.converter.specs.Converting.{converting-checks, converting, converted}
+use Rattle.converter.proofs.Outcomes.{converting-each, convertible, conversion-few}
 use Rattle.lists.specs.Faces.{list-analysed, list-written, reading-list, list-read}
 use Rattle.lists.specs.declared.ListRead.{ListRead}
 use Rattle.lists.specs.declared.ListRead.the-variants.{TurnedAway as not-read}
@@ -130,6 +135,9 @@ gathered-length policy list =
     ∙ laid-to-length list blanks (min (length list) most-tasks) (min-le-left (length list) most-tasks) (subst (λ (k : ℕ). min (length list) most-tasks ≤ k) (sym e) (min-le-right (length list) most-tasks))
     ∙ e
 
+deadlines-named : NamesBelow 32 Deadlines
+deadlines-named = names 32 Deadlines (lit< tt) refl
+
 module _ (policy : ℕ) (list : List Record) (room : List ℕ) where
   abbrev set : TaskSet
   set = gathered-of policy list
@@ -138,22 +146,30 @@ module _ (policy : ℕ) (list : List Record) (room : List ℕ) where
   unfolding records-of
   records-few = rw (length-take) (omega (arith, gathered-length policy list))
 
+  covered : Covers (NamesBelow 32) (map task-in (records-of set))
+  covered = few-named (map task-in (records-of set)) (omega (arith, records-few, length-map (records-of set) task-in))
+
   pub row-names : Names 32 (list-checks policy (set .«task_count») (records-of set))
-  row-names = list-each policy (set .«task_count») (records-of set) (few-named (map task-in (records-of set)) (omega (arith, records-few, length-map (records-of set) task-in)))
+  row-names = list-each policy (set .«task_count») (records-of set) covered
 
-  pub written-small : written-number (list-written policy list room) < 2 ^ 64
-  unfolding written writing admission gathered-of
-  written-small = subst (λ (w : Written). written-number w < 2 ^ 64) (written-gathered policy list room) (go (told Room not-written (writing set) room))
-    where
-      checks : List (Check Refusal)
-      checks = list-checks policy (set .«task_count») (records-of set)
+  pub writing-names : (version : ℕ) → Names 32 (writing-checks version policy (set .«task_count») (records-of set))
+  writing-names version = writing-each version policy (set .«task_count») (records-of set) deadlines-named covered
 
-      go : Told Room not-written (writing set) room → written-number (written set room) < 2 ^ 64
-      go (is-done d) =
-          let size = admitted-size set (gathered-length policy list) (admits checks (d .admitted)) in
-          subst (λ (w : Written). written-number w < 2 ^ 64) (sym (d .answer)) (omega arith)
-      go (turned-away r t) =
-          subst (λ (w : Written). written-number w < 2 ^ 64) (sym (t .answer)) (refusal-small r (each-refusal Room not-written (writing set) room (NamesBelow 32) row-names room-names r (t .why)))
+pub written-small : (version policy : ℕ) (list : List Record) (room : List ℕ) → written-number (list-written version policy list room) < 2 ^ 64
+unfolding written writing gathered-of
+written-small version policy list room =
+    subst (λ (w : Written). written-number w < 2 ^ 64) (written-gathered version policy list room) (go (told Room not-written (writing version (set policy list room)) room))
+  where
+    the-set : TaskSet
+    the-set = set policy list room
+
+    go : Told Room not-written (writing version the-set) room → written-number (written version the-set room) < 2 ^ 64
+    go (is-done d) =
+        let writable = passed-checks version the-set (admits _ (d .admitted)) in
+        let size = admitted-size version the-set (gathered-length policy list) (writable .admitted) in
+        subst (λ (w : Written). written-number w < 2 ^ 64) (sym (d .answer)) (omega arith)
+    go (turned-away r t) =
+        subst (λ (w : Written). written-number w < 2 ^ 64) (sym (t .answer)) (refusal-small r (each-refusal Room not-written (writing version the-set) room (NamesBelow 32) (writing-names policy list room version) room-names r (t .why)))
 
 -- ---- tasks analysed
 
@@ -211,7 +227,7 @@ module _ (s : List ℕ) where
 
   tasks-few : length (tasks-of s) ≤ 32
   unfolding tasks-of
-  tasks-few = omega (arith, count-small, length-tasks-in n (behind-header bits))
+  tasks-few = omega (arith, count-small, length-tasks-in (own-deadlines (version-of s)) n (behind-header bits))
 
   pub sheet-names : Names 32 (sheet-checks s)
   sheet-names = sheet-each s (few-named (tasks-of s) tasks-few)
@@ -227,9 +243,24 @@ module _ (s : List ℕ) where
       go : Told Room not-read (reading-list s) list → read-number (list-read s list) < 2 ^ 64
       go (is-done d) =
           let c = by-reading s (answer-read s ∙ admits (sheet-checks s) (d .admitted)) in
-          subst (λ (x : ListRead). read-number x < 2 ^ 64) (sym (d .answer)) (omega (arith, known-small (policy-of s) (c .policy-known), c .few-tasks))
+          subst (λ (x : ListRead). read-number x < 2 ^ 64) (sym (d .answer)) (omega (arith, known-small (policy-of s) (c .policy-known), c .few-tasks, version-small (version-of s) (passed-sheet s (answer-read s ∙ admits (sheet-checks s) (d .admitted)) .version-known)))
       go (turned-away r t) =
           subst (λ (x : ListRead). read-number x < 2 ^ 64) (sym (t .answer)) (refusal-small r (each-refusal Room not-read (reading-list s) list (NamesBelow 32) sheet-names room-names r (t .why)))
+
+-- ---- a sheet converted
+
+pub converting-names : (version : ℕ) (s : List ℕ) → Names 32 (converting-checks version s)
+converting-names version s = converting-each version s deadlines-named (few-named (tasks-of s) (tasks-few s))
+
+pub converted-small : (version : ℕ) (s room : List ℕ) → written-number (converted version s room) < 2 ^ 64
+unfolding converted converting
+converted-small version s room = go (told Room not-written (converting version s) room)
+  where
+    go : Told Room not-written (converting version s) room → written-number (converted version s room) < 2 ^ 64
+    go (is-done d) =
+        subst (λ (w : Written). written-number w < 2 ^ 64) (sym (d .answer)) (omega (arith, conversion-few version s (convertible version s .0 (d .admitted))))
+    go (turned-away r t) =
+        subst (λ (w : Written). written-number w < 2 ^ 64) (sym (t .answer)) (refusal-small r (each-refusal Room not-written (converting version s) room (NamesBelow 32) (converting-names version s) room-names r (t .why)))
 
 -- ---- a report
 

@@ -44,9 +44,9 @@ reason-number why = why .frame + byte * (why .length + byte * why .other)
 abbrev pub refused-number : Refusal → ℕ
 refused-number r = number-of r + byte * (task-of-refusal r + byte * reason-number (reason-of-refusal r))
 
--- the task count that was read, and above it the policy
+-- the task count that was read, above it the policy, above it the version
 abbrev pub read-number : ListRead → ℕ
-read-number (Set policy count) = with-detail (count + byte * policy)
+read-number (Set version policy count) = with-detail (count + byte * (policy + byte * version))
 read-number (turned-away r) = refused-number r
 
 -- the bytes written

@@ -9,6 +9,7 @@ ghost use Rattle.analysis.specs.Answers.{sheet-decision, sheet-left};
 ghost use Rattle.analysis.specs.Findings.{times-by-number};
 ghost use Rattle.analysis.specs.Inside.Numbered.{Numbered};
 ghost use Rattle.lists.specs.Faces.{list-read, list-filled, list-written, list-left, list-analysed, list-times};
+ghost use Rattle.converter.specs.Converting.{converted, converted-left};
 ghost use Rattle.report_text.specs.Text.{report-written, report-left};
 ghost use Rattle.player.specs.Answers.{played, traced, trace-left};
 ghost use Rattle.worst.specs.Writing.{worst-answer, worst-left};
@@ -106,7 +107,9 @@ fn read_number(read: ListRead) -> u64
     ensures { λ r. ⌜ r ≡ read-number read ⌝ }
 {
     match read {
-        ListRead::Set(policy, count) => BYTE * (count as u64 + BYTE * policy as u64),
+        ListRead::Set(version, policy, count) => {
+            BYTE * (count as u64 + BYTE * (policy as u64 + BYTE * version as u64))
+        }
         ListRead::TurnedAway(why) => refused_number(why),
     }
 }
@@ -179,12 +182,25 @@ pub extern "C" fn burrbeech_read_list(sheet: &[u8], list: &mut [Task]) -> u64
     read_number(lists::read_list(sheet, list))
 }
 
-// The workbench's own records written to a sheet.
+// The workbench's own records written to a sheet of that version.
 #[no_mangle]
-pub extern "C" fn burrbeech_write_list(policy: u32, list: &[Task], sheet: &mut [u8]) -> u64
-    ensures { λ r. ⌜ (r ≡ written-number (list-written policy (now (list .entry)) (now (sheet .entry)))) × (now (sheet .exit) ≡ list-left policy (now (list .entry)) (now (sheet .entry))) ⌝ }
+pub extern "C" fn burrbeech_write_list(
+    version: u32,
+    policy: u32,
+    list: &[Task],
+    sheet: &mut [u8],
+) -> u64
+    ensures { λ r. ⌜ (r ≡ written-number (list-written version policy (now (list .entry)) (now (sheet .entry)))) × (now (sheet .exit) ≡ list-left version policy (now (list .entry)) (now (sheet .entry))) ⌝ }
 {
-    written_number(lists::write_list(policy, list, sheet))
+    written_number(lists::write_list(version, policy, list, sheet))
+}
+
+// A sheet of the other version converted to this one.
+#[no_mangle]
+pub extern "C" fn burrbeech_convert(version: u32, sheet: &[u8], out: &mut [u8]) -> u64
+    ensures { λ r. ⌜ (r ≡ written-number (converted version (now (sheet .entry)) (now (out .entry)))) × (now (out .exit) ≡ converted-left version (now (sheet .entry)) (now (out .entry))) ⌝ }
+{
+    written_number(converter::convert(version, sheet, out))
 }
 
 // The workbench's own records analysed, the times to lent numbers.

@@ -20,6 +20,7 @@ use Rattle.sheet.specs.declared.Refusal.{Refusal}
 use Rattle.sheet.specs.declared.Refusal.the-variants.{Room}
 use Rattle.sheet.proofs.Checks.{none-applies, one-applies}
 use Rattle.sheet.proofs.Records.{tasks-with}
+use Rattle.sheet.proofs.Carried.{many-found}
 use Rattle.admission.specs.declared.Judged.{Judged}
 use Rattle.admission.proofs.Answers.{judged-tells}
 use Rattle.reader.specs.Sheets.{sheet-judged}
@@ -112,7 +113,7 @@ module _ (s room : List ℕ) where
     unfolding sheet-judged set-with
     call-is e =
         ap (λ (x : TaskSet). writing-by [] (x .policy) (map task-in (records-of x))) (judged-is j _ _ ej (sheet-answer Admitted e) .0)
-        ∙ ap (writing-by [] (policy-of s)) (tasks-with (policy-of s) (tasks-of s))
+        ∙ ap (writing-by [] (policy-of s)) (tasks-with (policy-of s) (tasks-of s) (many-found s))
 
   -- an admitted sheet is answered as its set is
   pub sheet-passed : decided (sheet-checks s) ≡ Admitted

@@ -10,6 +10,7 @@ use lib.Seq.{getD-take, length-take-le, ext-getD}
 use Rattle.theory.specs.Tasks.{Task, task-at, deadline-of, AdmittedTask}
 use Rattle.theory.specs.Analysis.{blocker, FirstWithout}
 use Rattle.theory.specs.WorstRun.{Role, own, blocks, role, worst-first}
+use Rattle.theory.proofs.Work.{deadline-positive}
 use Rattle.theory.proofs.Search.{Answer, answer, nothing, it-is}
 use Rattle.theory.proofs.Blocking.{blocker-is}
 use Rattle.theory.proofs.Verdict.{IsMissed}
@@ -155,7 +156,7 @@ module _ (s : TaskSet) (room : length (s .tasks) ≡ most-tasks) (e : admission 
   set-at q h = ordered-at (s .policy) tasks q h
 
   names : IsMissed set p (blocker set p) × FirstWithout set p k
-  names = miss-names set p k (λ q h. let l : q < n = rw (ordered-length (s .policy) tasks) at h in rw (set-at q l) (admitted (number q) (number-in q l) .well-formed .has-frame)) miss
+  names = miss-names set p k miss
 
   -- the place that is named is one of the set
   pub place-inside : p < n
@@ -165,13 +166,11 @@ module _ (s : TaskSet) (room : length (s .tasks) ≡ most-tasks) (e : admission 
   D = deadline-of (task-at set p) k
 
   end-in : (1 ≤ D) × (D ≤ greatest-time)
-  unfolding deadline-of
   end-in =
-      let f = fields (number p) (number-in p place-inside) in
       let a = admitted (number p) (number-in p place-inside) .well-formed in
       let same = set-at p place-inside in
-      let dead : D ≡ task-at tasks (number p) .deadline = ap (λ (t : Task). t .deadline) same in
-      (omega (arith, a .frame-positive 0 (a .has-frame), a .frame-in-deadline 0 (a .has-frame)), omega (arith, f .deadline-fits))
+      let k-in = rw same at (names .1 .frame-in) in
+      rw same (deadline-positive a k k-in, omega (arith, a .deadline-in-period k k-in, fields (number p) (number-in p place-inside) .period-fits))
 
   -- task i, its place and its role
   module _ (i : ℕ) (h : i < n) where

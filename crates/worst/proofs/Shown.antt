@@ -64,8 +64,7 @@ module _ (policy : ℕ) (tasks : List Task) (carried : Carried policy tasks) (ad
   D = deadline-of (task-at set p) k
 
   names : IsMissed set p (blocker set p) × FirstWithout set p k
-  names =
-      miss-names set p k (λ q h. ordered-admitted policy tasks admitted .each-task q h .well-formed .has-frame) e
+  names = miss-names set p k e
 
   in-set : p < length tasks
   in-set = rw (ordered-length policy tasks) at (names .0 .in-set)
@@ -81,14 +80,14 @@ module _ (policy : ℕ) (tasks : List Task) (carried : Carried policy tasks) (ad
   unfolding frame-count
   few-frames i h = each-fits i h .few-frames
 
-  in-time : D ≤ greatest-time
-  unfolding deadline-of
-  in-time =
-      let i-in : number-at order p < length tasks = number-in (length tasks) order (order-permutes policy tasks) p in-set in
-      rw (place-task) (omega (arith, each-fits (number-at order p) i-in .deadline-fits))
-
   k-in : k < frame-count (task-at set p)
   k-in = names .1 .frame-in
+
+  in-time : D ≤ greatest-time
+  in-time =
+      let i = number-at order p in
+      let i-in : i < length tasks = number-in (length tasks) order (order-permutes policy tasks) p in-set in
+      rw place-task (omega (arith, admitted .each-task i i-in .well-formed .deadline-in-period k (rw place-task at k-in), each-fits i i-in .period-fits))
 
   kept : first-refusal (item-checks tasks sc) ≡ none
   unfolding ordered-set

@@ -18,13 +18,15 @@ use Rattle.sheet.proofs.Counts.{count-passed, known-small}
 
 -- what the fields of a record in use need
 pub record Puttable (r : Record) : Type 0 where
+  pub some : 1 ≤ r .«frame_count»
   pub few : r .«frame_count» ≤ most-frames
   pub ranged : in-range (task-in r) ≡ true
 
-counts-in : (k : ℕ) (rs : List Record) → decided (frame-count-checks k rs) ≡ Admitted → (i : ℕ) (d : Record) → i < length rs → getD rs i d .«frame_count» ≤ most-frames
+counts-in : (k : ℕ) (rs : List Record) → decided (frame-count-checks k rs) ≡ Admitted → (i : ℕ) (d : Record) → i < length rs
+    → (1 ≤ getD rs i d .«frame_count») × (getD rs i d .«frame_count» ≤ most-frames)
 unfolding frame-count-checks frame-count-check
 counts-in k [] e i d h = let z : ⊥ = omega arith in absurd z
-counts-in k (r ∷ rs) e zero d h = count-passed (r .«frame_count») most-frames (passed _ _ e .0) .1
+counts-in k (r ∷ rs) e zero d h = count-passed (r .«frame_count») most-frames (passed _ _ e .0)
 counts-in k (r ∷ rs) e (suc i) d h = counts-in (suc k) rs (passed _ _ e .1) i d (omega arith)
 
 ranges-in : (k : ℕ) (rs : List Record) → decided (task-checks k (map task-in rs)) ≡ Admitted → (i : ℕ) (d : Record) → i < length rs → in-range (task-in (getD rs i d)) ≡ true
@@ -49,6 +51,7 @@ module _ (s : TaskSet) (e : admission s ≡ Admitted) (long : length (s .tasks) 
   pub puttable : (i : ℕ) (d : Record) → i < length (records-of s) → Puttable (getD (records-of s) i d)
   puttable i d h =
       record {
-        few = counts-in 0 (records-of s) counts-admitted i d h;
+        some = counts-in 0 (records-of s) counts-admitted i d h .0;
+        few = counts-in 0 (records-of s) counts-admitted i d h .1;
         ranged = ranges-in 0 (records-of s) (by-admission s long e .formed) i d h;
       }

@@ -1,103 +1,161 @@
 -- The fields of a task: its numbers fit them, and its bits are those of its two rows.
-use mathlib.Core.Bool.{true}
-use mathlib.Core.List.{List, [], _∷_, _++_}
-use mathlib.Core.Path.{_≡_, sym, ap, ap₂, subst, _∙_}
-use Prim.Native.Nat.{ℕ, _+_, _^_, _≤_, _<_}
+use mathlib.Core.Bool.{Bool, true, false}
+use mathlib.Core.List.{List, _++_}
+use mathlib.Core.Path.{_≡_, refl, sym, ap, ap₂, _∙_}
+use Prim.Native.Nat.{ℕ, _+_, _-_, _*_, _≤_}
 use native.Mathlib.Omega.{arith}
 use borrow.Author.Tests.{leb-true}
-use lib.ListN.{length, take, length-append}
-use lib.Seq.{length-take-le}
+use lib.ListN.{length, take, replicate, length-append}
+use lib.Seq.{length-take-le, take-at}
 use Rattle.records.specs.Rows.{packed, total}
 use Rattle.records.specs.Faces.{last-position, end-of, row-fits, width-of}
 use Rattle.records.specs.Inside.Steps.{Placed}
-use Rattle.records.proofs.Packing.{Fit, no-field, one-more, total-replicate}
+use Rattle.records.proofs.Packing.{total-replicate}
 use Rattle.records.proofs.Parts.{take-replicate}
 use Rattle.records.proofs.Placing.{placed-behind}
 use Rattle.records.proofs.Putting.{row-can, room-behind}
-use Rattle.sheet.specs.Constants.{time-width, frame-count-width, most-frames, greatest-time}
-use Rattle.sheet.specs.Fields.{fixed-widths, frame-widths}
+use Rattle.sheet.specs.Constants.{time-width, fixed-room, most-frames, greatest-time}
+use Rattle.sheet.specs.Fields.{fixed-widths, frame-fields, frame-widths}
 use Rattle.sheet.specs.Tasks.{task-in}
 use Rattle.sheet.specs.Admission.{in-range}
-use Rattle.sheet.specs.Writing.{task-bits}
+use Rattle.sheet.specs.Writing.{fixed-numbers, frame-numbers, task-bits}
 use Rattle.sheet.specs.declared.Task.{Task as Record}
-use Rattle.sheet.proofs.InFields.{range-of, time-fits, times-fit}
-use Rattle.sheet.proofs.RecordBits.{length-task-bits}
+use Rattle.sheet.proofs.Records.{AsMany, as-many-slots}
+use Rattle.sheet.proofs.InFields.{InFields, range-of, time-fits, times-fit}
+use Rattle.sheet.proofs.RecordBits.{fixed-fit, frames-fit-in, length-task-bits}
 use Rattle.sheet.proofs.Lawful.{fixed-lawful, frames-lawful}
 
--- the two rows of a record
-abbrev pub fixed-row : Record → List ℕ
-fixed-row r = r .period ∷ r .deadline ∷ r .lock ∷ r .«frame_count» ∷ []
+-- ---- the rows in use are the first of what there is
 
-abbrev pub frames-row : Record → List ℕ
-frames-row r = take (r .«frame_count») (r .frames)
+-- the room for the frames of a record
+abbrev pub frame-slots : ℕ
+frame-slots = 2 * most-frames
 
--- the first n of eight widths
-pub first-widths : (n : ℕ) (ws : List ℕ) → n ≤ most-frames → ws ≡ frame-widths most-frames → take n ws ≡ frame-widths n
-first-widths n ws h e = ap (take n) e ∙ take-replicate n most-frames time-width h
+pub fields-few : (own : Bool) (n : ℕ) → n ≤ most-frames → frame-fields own * n ≤ frame-slots
+fields-few false n h = omega arith
+fields-few true n h = omega arith
 
-module _ (r : Record) (few : r .«frame_count» ≤ most-frames) (long : length (r .frames) ≡ most-frames) where
-  pub count-is : length (frames-row r) ≡ r .«frame_count»
-  count-is = length-take-le (r .«frame_count») (r .frames) (rw long few)
+pub fixed-first : (own : Bool) (n : ℕ) (ws : List ℕ) → n ≡ length (fixed-widths own) → ws ≡ fixed-widths own ++ replicate (fixed-room - length (fixed-widths own)) 0
+    → take n ws ≡ fixed-widths own
+fixed-first own n ws e f = ap₂ take e f ∙ take-at (fixed-widths own) _ (length (fixed-widths own)) refl
 
-  task-rows : task-bits (task-in r) ≡ packed fixed-widths (fixed-row r) ++ packed (frame-widths (r .«frame_count»)) (frames-row r)
-  unfolding task-bits task-in
-  task-rows =
-      ap (λ (n : ℕ). packed fixed-widths (r .period ∷ r .deadline ∷ r .lock ∷ n ∷ []) ++ packed (frame-widths n) (frames-row r)) count-is
+pub fixed-in-room : (own : Bool) (n : ℕ) (ws : List ℕ) → n ≡ length (fixed-widths own) → ws ≡ fixed-widths own ++ replicate (fixed-room - length (fixed-widths own)) 0
+    → n ≤ length ws
+fixed-in-room own n ws e f = rw (e, f, length-append (fixed-widths own) (replicate (fixed-room - length (fixed-widths own)) 0)) (omega arith)
+
+pub frames-first : (own : Bool) (n m : ℕ) (ws : List ℕ) → n ≤ most-frames → m ≡ frame-fields own * n → ws ≡ frame-widths true most-frames → take m ws ≡ frame-widths own n
+frames-first own n m ws h e f = ap₂ take e f ∙ take-replicate (frame-fields own * n) frame-slots time-width (fields-few own n h)
+
+pub frames-in-room : (own : Bool) (n m : ℕ) (ws : List ℕ) → n ≤ most-frames → m ≡ frame-fields own → ws ≡ frame-widths true most-frames → m * n ≤ length ws
+frames-in-room own n m ws few e f = rw (e, f) (fields-few own n few)
+
+numbers-long : (own : Bool) (r : Record) → length (fixed-numbers own (task-in r)) ≡ length (fixed-widths own)
+unfolding fixed-numbers
+numbers-long false r = refl
+numbers-long true r = refl
+
+pub numbers-first : (own : Bool) (r : Record) (n : ℕ) (xs : List ℕ) → n ≡ length (fixed-widths own)
+    → xs ≡ fixed-numbers own (task-in r) ++ replicate (fixed-room - length (fixed-widths own)) 0 → take n xs ≡ fixed-numbers own (task-in r)
+numbers-first own r n xs e f = ap₂ take e f ∙ take-at (fixed-numbers own (task-in r)) _ (length (fixed-widths own)) (numbers-long own r)
+
+pub numbers-in-room : (own : Bool) (r : Record) (n : ℕ) (xs : List ℕ) → n ≡ length (fixed-widths own)
+    → xs ≡ fixed-numbers own (task-in r) ++ replicate (fixed-room - length (fixed-widths own)) 0 → n ≤ length xs
+numbers-in-room own r n xs e f =
+    rw (e, f, length-append (fixed-numbers own (task-in r)) (replicate (fixed-room - length (fixed-widths own)) 0), numbers-long own r) (omega arith)
+
+-- ---- a record
+
+module _ (own : Bool) (r : Record) (few : r .«frame_count» ≤ most-frames) (frames-room : length (r .frames) ≡ most-frames) (deadlines-room : length (r .deadlines) ≡ most-frames) where
+  pub count-is : length (task-in r .frames) ≡ r .«frame_count»
+  unfolding task-in
+  count-is = length-take-le (r .«frame_count») (r .frames) (rw frames-room few)
+
+  many : AsMany (task-in r)
+  many = as-many-slots r frames-room deadlines-room
 
   -- how many bits it takes
-  pub record-width : length (task-bits (task-in r)) ≡ total fixed-widths + total (frame-widths (r .«frame_count»))
-  unfolding task-in
-  record-width = length-task-bits (task-in r) ∙ ap (λ (n : ℕ). total fixed-widths + total (frame-widths n)) count-is
+  record-width : length (task-bits own (task-in r)) ≡ total (fixed-widths own) + total (frame-widths own (r .«frame_count»))
+  record-width = length-task-bits own (task-in r) many ∙ ap (λ (n : ℕ). total (fixed-widths own) + total (frame-widths own n)) count-is
 
   -- counted by rows of widths
-  module _ (ws fs : List ℕ) (ew : ws ≡ fixed-widths) (ef : fs ≡ frame-widths most-frames) (a b : ℕ) (ea : a ≡ width-of ws) (eb : b ≡ width-of (take (r .«frame_count») fs)) where
-    widths-are : (a ≡ total fixed-widths) × (b ≡ total (frame-widths (r .«frame_count»)))
+  module _ (n m : ℕ) (ws fs : List ℕ) (en : n ≡ length (fixed-widths own)) (ew : ws ≡ fixed-widths own ++ replicate (fixed-room - length (fixed-widths own)) 0)
+      (em : m ≡ frame-fields own * r .«frame_count») (ef : fs ≡ frame-widths true most-frames)
+      (a b : ℕ) (ea : a ≡ width-of (take n ws)) (eb : b ≡ width-of (take m fs)) where
+    fixed-small : (o : Bool) → total (fixed-widths o) ≤ 64
     unfolding total
-    widths-are =
-        let n = total-replicate (r .«frame_count») time-width in
-        (ea ∙ ap width-of ew, eb ∙ ap width-of (first-widths (r .«frame_count») fs few ef) ∙ omega arith)
+    fixed-small false = omega arith
+    fixed-small true = omega arith
+
+    frames-small : total (frame-widths own (r .«frame_count»)) ≤ 320
+    frames-small = rw (total-replicate (frame-fields own * r .«frame_count») time-width) (omega (arith, fields-few own (r .«frame_count») few))
+
+    widths-are : (a ≡ total (fixed-widths own)) × (b ≡ total (frame-widths own (r .«frame_count»)))
+    widths-are = (
+      ea ∙ ap width-of (fixed-first own n ws en ew) ∙ omega (arith, fixed-small own),
+      eb ∙ ap width-of (frames-first own (r .«frame_count») m fs few em ef) ∙ omega (arith, frames-small),
+    )
 
     pub width-small : a + b ≤ last-position
-    unfolding total
-    width-small = omega (arith, widths-are .0, widths-are .1, total-replicate (r .«frame_count») time-width)
+    width-small = omega (arith, widths-are .0, widths-are .1, fixed-small own, frames-small)
 
-    pub width-is : a + b ≡ length (task-bits (task-in r))
+    pub width-is : a + b ≡ length (task-bits own (task-in r))
     width-is = ap₂ _+_ (widths-are .0) (widths-are .1) ∙ sym record-width
 
-  module _ (e : in-range (task-in r) ≡ true) where
-    fixed-fit : Fit fixed-widths (fixed-row r)
-    unfolding task-in
-    fixed-fit =
+  module _ (some : 1 ≤ r .«frame_count») (e : in-range (task-in r) ≡ true) where
+    in-fields : InFields (task-in r)
+    in-fields =
         let h = range-of (task-in r) .0 e in
-        let lock : r .lock < 2 ^ time-width = omega (arith, leb-true (r .lock) greatest-time (h .lock-time)) in
-        let count : r .«frame_count» < 2 ^ frame-count-width = omega arith in
-        one-more (time-fits (r .period) (h .period-time)) (one-more (time-fits (r .deadline) (h .deadline-time)) (one-more lock (one-more count no-field)))
-
-    frames-fit : Fit (frame-widths (r .«frame_count»)) (frames-row r)
-    unfolding task-in
-    frames-fit = subst (λ (n : ℕ). Fit (frame-widths n) (frames-row r)) count-is (times-fit (frames-row r) (range-of (task-in r) .0 e .frame-times))
+        record {
+          period-fits = time-fits _ (h .period-time);
+          lock-fits = omega (arith, leb-true (task-in r .lock) greatest-time (h .lock-time));
+          frames-fit = times-fit (task-in r .frames) (h .frame-times);
+          deadlines-fit = times-fit (task-in r .deadlines) (h .deadline-times);
+          as-many = many;
+          some-frame = omega (arith, count-is);
+          few-frames = omega (arith, count-is);
+        }
 
     -- the bits of a record, put by its rows
-    module _ (ws fs : List ℕ) (ew : ws ≡ fixed-widths) (ef : fs ≡ frame-widths most-frames) (s : List ℕ) (at : ℕ)
-        (room : at + length (task-bits (task-in r)) ≤ end-of (length s)) where
-      rows-room : at + length (packed fixed-widths (fixed-row r)) + length (packed (frame-widths (r .«frame_count»)) (frames-row r)) ≤ end-of (length s)
-      rows-room =
-          let l = ap length task-rows ∙ length-append (packed fixed-widths (fixed-row r)) (packed (frame-widths (r .«frame_count»)) (frames-row r)) in
-          omega arith
+    module _ (n m : ℕ) (ws fs xs ys : List ℕ) (en : n ≡ length (fixed-widths own)) (ew : ws ≡ fixed-widths own ++ replicate (fixed-room - length (fixed-widths own)) 0)
+        (em : m ≡ frame-fields own * r .«frame_count») (ef : fs ≡ frame-widths true most-frames)
+        (ex : xs ≡ fixed-numbers own (task-in r) ++ replicate (fixed-room - length (fixed-widths own)) 0)
+        (ey : take (frame-fields own * r .«frame_count») ys ≡ frame-numbers own (task-in r))
+        (s : List ℕ) (at : ℕ) (room : at + length (task-bits own (task-in r)) ≤ end-of (length s)) where
+      abbrev F : List Bool
+      F = packed (fixed-widths own) (fixed-numbers own (task-in r))
 
-      pub fixed-can : row-fits (length s) at ws (fixed-row r) ≡ true
-      fixed-can = rw ew (row-can (length s) at fixed-lawful fixed-fit (omega (arith, rows-room)))
+      abbrev G : List Bool
+      G = packed (frame-widths own (length (task-in r .frames))) (frame-numbers own (task-in r))
 
-      module _ {t : List ℕ} {next : ℕ} (p : Placed s at (packed ws (fixed-row r)) t next) where
-        first : Placed s at (packed fixed-widths (fixed-row r)) t next
-        first = rw ew at p
+      fixed-row : packed (take n ws) (take n xs) ≡ F
+      fixed-row = ap₂ packed (fixed-first own n ws en ew) (numbers-first own r n xs en ex)
 
-        pub frames-can : row-fits (length t) next (take (r .«frame_count») fs) (frames-row r) ≡ true
+      frame-row : packed (take m fs) (take m ys) ≡ G
+      frame-row =
+          ap₂ packed
+          (frames-first own (r .«frame_count») m fs few em ef ∙ ap (frame-widths own) (sym count-is))
+          (ap (λ (k : ℕ). take k ys) em ∙ ey)
+
+      rows-room : at + length F + length G ≤ end-of (length s)
+      unfolding task-bits
+      rows-room = omega (arith, length-append F G)
+
+      pub fixed-can : row-fits (length s) at (take n ws) (take n xs) ≡ true
+      fixed-can =
+          rw (fixed-first own n ws en ew, numbers-first own r n xs en ex)
+          (row-can (length s) at (fixed-lawful own) (fixed-fit own (task-in r) in-fields) (omega (arith, rows-room)))
+
+      module _ {t : List ℕ} {next : ℕ} (p : Placed s at (packed (take n ws) (take n xs)) t next) where
+        first : Placed s at F t next
+        first = rw fixed-row at p
+
+        pub frames-can : row-fits (length t) next (take m fs) (take m ys) ≡ true
         frames-can =
-            rw (first-widths (r .«frame_count») fs few ef)
-            (row-can (length t) next (frames-lawful (r .«frame_count»)) frames-fit (room-behind (packed fixed-widths (fixed-row r)) _ rows-room first))
+            rw (frames-first own (r .«frame_count») m fs few em ef ∙ ap (frame-widths own) (sym count-is), ap (λ (k : ℕ). take k ys) em ∙ ey)
+            (row-can (length t) next (frames-lawful own (length (task-in r .frames))) (frames-fit-in own (task-in r) in-fields) (room-behind F _ rows-room first))
 
-        pub rows-placed : {u : List ℕ} {end : ℕ} → Placed t next (packed (take (r .«frame_count») fs) (frames-row r)) u end → Placed s at (task-bits (task-in r)) u end
+        pub rows-placed : {u : List ℕ} {end : ℕ} → Placed t next (packed (take m fs) (take m ys)) u end → Placed s at (task-bits own (task-in r)) u end
+        unfolding task-bits
         rows-placed q =
-            let second = rw (first-widths (r .«frame_count») fs few ef) at q in
-            rw task-rows (placed-behind (packed fixed-widths (fixed-row r)) (packed (frame-widths (r .«frame_count»)) (frames-row r)) (omega (arith, rows-room)) first second)
+            let second = rw frame-row at q in
+            placed-behind F G (omega (arith, rows-room)) first second

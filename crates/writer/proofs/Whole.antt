@@ -15,8 +15,8 @@ use Rattle.records.proofs.Packing.{Fit, no-field, one-more}
 use Rattle.records.proofs.Placing.{placed-long, placed-behind}
 use Rattle.records.proofs.Putting.{row-can, room-behind, placed-first}
 use Rattle.records.proofs.RoundTrip.{closed-is}
-use Rattle.sheet.specs.Constants.{the-version, policy-width, task-count-width, most-tasks, deadline-monotonic}
-use Rattle.sheet.specs.Fields.{header-widths}
+use Rattle.sheet.specs.Constants.{version-2, version-width, policy-width, task-count-width, most-tasks, deadline-monotonic}
+use Rattle.sheet.specs.Fields.{header-widths, own-deadlines}
 use Rattle.sheet.specs.Tasks.{task-in, records-of}
 use Rattle.sheet.specs.Admission.{admission}
 use Rattle.sheet.specs.Writing.{header-bits, tasks-bits, sheet-of, sheet-bytes}
@@ -27,41 +27,42 @@ use Rattle.sheet.proofs.Lawful.{header-lawful}
 use Rattle.writer.proofs.Sets.{size-most}
 
 -- the header's row
-header-fit : (policy n : ℕ) → policy ≤ deadline-monotonic → n ≤ most-tasks → Fit header-widths (the-version ∷ policy ∷ n ∷ 0 ∷ [])
-header-fit policy n p h =
-    one-more (lit< tt) (one-more {w = policy-width} {v = policy} (omega arith) (one-more {w = task-count-width} {v = n} (omega arith) (one-more (lit< tt) no-field)))
+header-fit : (version policy n : ℕ) → version ≤ version-2 → policy ≤ deadline-monotonic → n ≤ most-tasks → Fit header-widths (version ∷ policy ∷ n ∷ 0 ∷ [])
+header-fit version policy n v p h =
+    one-more {w = version-width} {v = version} (omega arith) (one-more {w = policy-width} {v = policy} (omega arith) (one-more {w = task-count-width} {v = n} (omega arith) (one-more (lit< tt) no-field)))
 
-pub header-can : (size policy n : ℕ) (ws : List ℕ) → ws ≡ header-widths → policy ≤ deadline-monotonic → n ≤ most-tasks → length (header-bits policy n) ≤ end-of size
-    → row-fits size 0 ws (the-version ∷ policy ∷ n ∷ 0 ∷ []) ≡ true
+pub header-can : (size version policy n : ℕ) (ws : List ℕ) → ws ≡ header-widths → version ≤ version-2 → policy ≤ deadline-monotonic → n ≤ most-tasks
+    → length (header-bits version policy n) ≤ end-of size
+    → row-fits size 0 ws (version ∷ policy ∷ n ∷ 0 ∷ []) ≡ true
 unfolding header-bits
-header-can size policy n ws ew p h room = rw ew (row-can size 0 header-lawful (header-fit policy n p h) (omega arith))
+header-can size version policy n ws ew v p h room = rw ew (row-can size 0 header-lawful (header-fit version policy n v p h) (omega arith))
 
-pub header-placed : {s t : List ℕ} {next : ℕ} (policy n : ℕ) (ws : List ℕ) → ws ≡ header-widths
-    → Placed s 0 (packed ws (the-version ∷ policy ∷ n ∷ 0 ∷ [])) t next → Placed s 0 (header-bits policy n) t next
+pub header-placed : {s t : List ℕ} {next : ℕ} (version policy n : ℕ) (ws : List ℕ) → ws ≡ header-widths
+    → Placed s 0 (packed ws (version ∷ policy ∷ n ∷ 0 ∷ [])) t next → Placed s 0 (header-bits version policy n) t next
 unfolding header-bits
-header-placed policy n ws ew p = rw ew at p
+header-placed version policy n ws ew p = rw ew at p
 
 -- ---- the sheet of an admitted set, put into as many bytes as it has
 
-module _ (s : TaskSet) (e : admission s ≡ Admitted) (long : length (s .tasks) ≡ most-tasks) where
+module _ (version : ℕ) (s : TaskSet) (e : admission s ≡ Admitted) (long : length (s .tasks) ≡ most-tasks) where
   -- the bits of its header and of its records
   abbrev H : List Bool
-  H = header-bits (s .policy) (s .«task_count»)
+  H = header-bits version (s .policy) (s .«task_count»)
 
   abbrev R : List Bool
-  R = tasks-bits (map task-in (records-of s))
+  R = tasks-bits (own-deadlines version) (map task-in (records-of s))
 
-  sheet-rows : sealed-record (H ++ R) ≡ sheet-bytes s
+  sheet-rows : sealed-record (H ++ R) ≡ sheet-bytes version s
   unfolding sheet-bytes sheet-of
-  sheet-rows = ap (λ (n : ℕ). sealed-record (header-bits (s .policy) n ++ tasks-bits (map task-in (records-of s)))) (sym (count-in-use s long e))
+  sheet-rows = ap (λ (n : ℕ). sealed-record (header-bits version (s .policy) n ++ tasks-bits (own-deadlines version) (map task-in (records-of s)))) (sym (count-in-use s long e))
 
-  rows-size : length (sheet-bytes s) ≡ sealed-size (length (H ++ R))
+  rows-size : length (sheet-bytes version s) ≡ sealed-size (length (H ++ R))
   rows-size = ap length (sym sheet-rows) ∙ length-sealed (H ++ R)
 
   -- the room that the parts find, one behind the other
-  module _ (b : List ℕ) (exact : length b ≡ length (sheet-bytes s)) where
+  module _ (b : List ℕ) (exact : length b ≡ length (sheet-bytes version s)) where
     room : 0 + length H + length R ≤ end-of (length b)
-    room = omega (arith, exact, rows-size, length-append H R, size-most s e long)
+    room = omega (arith, exact, rows-size, length-append H R, size-most version s e long)
 
     pub header-room : length H ≤ end-of (length b)
     header-room = omega (arith, room)
@@ -71,7 +72,7 @@ module _ (s : TaskSet) (e : admission s ≡ Admitted) (long : length (s .tasks) 
       records-room = room-behind H (length R) room p
 
       -- what is closed behind them is the sheet
-      pub whole : {u v : List ℕ} {end : ℕ} → Placed t at R u end → v ≡ closed u end → v ≡ sheet-bytes s
+      pub whole : {u v : List ℕ} {end : ℕ} → Placed t at R u end → v ≡ closed u end → v ≡ sheet-bytes version s
       whole {u} {v} {end} q ev =
           let all : Placed b 0 (H ++ R) u end = placed-behind H R (omega (arith, room)) p q in
           let same : length u ≡ length b = placed-long (rw (length-append H R) (omega (arith, room))) all in

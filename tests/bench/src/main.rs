@@ -3,6 +3,7 @@ use second::analysis;
 use second::generate::{self, Shape};
 use second::random::Random;
 use second::scripts::{self, Entry as Release, Script};
+use second::sheet::VERSIONS;
 use second::task::{Set, Task, MOST_TASKS, MOST_TICKS};
 use second::{answers, sheet};
 use std::hint::black_box;
@@ -33,10 +34,9 @@ fn nanoseconds(entry: Entry, sheets: &[Vec<u8>], rounds: usize) -> f64 {
 }
 
 /// The least of several turns, the two programs by turns, so that other load on the machine weighs on neither.
-fn measure(what: &str, sets: &[Set], rounds: usize, turns: usize) {
-    let sheets: Vec<Vec<u8>> = sets.iter().map(sheet::write).collect();
+fn measure(what: &str, sheets: &[Vec<u8>], rounds: usize, turns: usize) {
     let mut holds = 0;
-    for sheet in &sheets {
+    for sheet in sheets {
         let (mut ours, mut theirs) = ([0; 512], [0; 512]);
         let answer = proved(sheet, &mut ours);
         assert_eq!((answer, ours), (analysis::check_sheet(sheet, &mut theirs), theirs));
@@ -45,7 +45,7 @@ fn measure(what: &str, sets: &[Set], rounds: usize, turns: usize) {
     let mut least = [f64::INFINITY; 2];
     for _ in 0..turns {
         for (least, entry) in least.iter_mut().zip([proved as Entry, analysis::check_sheet]) {
-            *least = least.min(nanoseconds(entry, &sheets, rounds));
+            *least = least.min(nanoseconds(entry, sheets, rounds));
         }
     }
     let [ours, theirs] = least;
@@ -53,8 +53,8 @@ fn measure(what: &str, sets: &[Set], rounds: usize, turns: usize) {
     println!("{of:<60} proved {ours:>11.0} ns, second {theirs:>11.0} ns, ratio {:.2}", ours / theirs);
 }
 
-/// 1 to 6 tasks of 1 to 3 frames, periods of 1,000 to 100,000 ticks, short locks, loads of 0.3 to 0.9.
-fn typical(random: &mut Random) -> Set {
+/// 1 to 6 tasks of 1 to 3 frames, periods of 1,000 to 100,000 ticks, short locks, loads of 0.3 to 0.9; in version 2 with a deadline for each frame.
+fn typical(random: &mut Random, version: u32) -> Vec<u8> {
     let shape = Shape {
         tasks: 1 + random.below(6) as usize,
         least_frames: 1,
@@ -63,27 +63,42 @@ fn typical(random: &mut Random) -> Set {
         greatest_period: 100_000,
         most_lock: 100,
         most_early: 200,
+        apart: version == 2,
         load: 300 + random.below(601) as u32,
     };
-    generate::set_of(random, shape)
+    sheet::write(version, &generate::set_of(random, shape))
+}
+
+/// Any set in a version that can hold it.
+fn any(random: &mut Random) -> Vec<u8> {
+    let set = generate::admitted_set(random);
+    generate::sheet_of(random, &set)
 }
 
 /// One larger frame in each task, so that its time does not answer for the others, and little work in all, so that a round adds little.
 fn one_larger_frame() -> Set {
-    let plain = |period: u32, frames: Vec<u32>| Task { period, deadline: period, lock: 0, frames };
-    let mut tasks = vec![plain(2, vec![2, 2, 2, 2, 2, 2, 2, 1]), plain(17, vec![1]), plain(274, vec![1])];
-    tasks.extend((3..MOST_TASKS).map(|_| plain(MOST_TICKS, vec![2, 1, 1, 1, 1, 1, 1, 1])));
+    let mut tasks = vec![plain(2, &[2, 2, 2, 2, 2, 2, 2, 1]), plain(17, &[1]), plain(274, &[1])];
+    tasks.extend((3..MOST_TASKS).map(|_| plain(MOST_TICKS, &[2, 1, 1, 1, 1, 1, 1, 1])));
     Set { policy: 0, tasks }
 }
 
 /// Short periods that leave a hundred-thousandth of the processor, so that the long times below take very many rounds; two of the short tasks miss, and the long times are still written.
 fn costliest_found() -> Set {
-    let plain = |period: u32, frames: Vec<u32>| Task { period, deadline: period, lock: 0, frames };
     let short = [(19, 8), (9, 1), (23, 1), (22, 1), (17, 1), (10, 3), (16, 1), (39, 4), (2, 1), (2_875, 1)];
-    let mut tasks: Vec<Task> = short.map(|(period, frames)| plain(period, vec![1; frames])).to_vec();
-    tasks.extend((short.len()..MOST_TASKS).map(|_| plain(MOST_TICKS, vec![2, 1, 1, 1, 1, 1, 1, 1])));
+    let mut tasks: Vec<Task> = short.map(|(period, frames)| plain(period, &vec![1; frames])).to_vec();
+    tasks.extend((short.len()..MOST_TASKS).map(|_| plain(MOST_TICKS, &[2, 1, 1, 1, 1, 1, 1, 1])));
     tasks[MOST_TASKS - 1].lock = 2;
     Set { policy: 0, tasks }
+}
+
+/// The set with eight different deadlines in each of its long tasks.
+fn with_different_deadlines(set: &Set) -> Set {
+    Set { policy: set.policy, tasks: set.tasks.iter().map(generate::with_different_deadlines).collect() }
+}
+
+/// One deadline, at the period, and no lock.
+fn plain(period: u32, frames: &[u32]) -> Task {
+    Task::with_one_deadline(period, period, 0, frames)
 }
 
 /// Milliseconds of one call that answers a number, the least of several turns by turns, where both programs answer the same.
@@ -103,16 +118,16 @@ fn measure_long(what: &str, turns: usize, mut ours: impl FnMut() -> u64, mut the
 }
 
 fn play_by_turns(what: &str, set: &Set, script: &Script, turns: usize) {
-    let (sheet, script) = (sheet::write(set), scripts::write(script));
+    let (sheet, script) = (sheet::write(1, set), scripts::write(script));
     let proved = || unsafe { burrbeech_play(sheet.as_ptr(), sheet.len(), script.as_ptr(), script.len()) };
     measure_long(what, turns, proved, || answers::play(&sheet, &script));
 }
 
 /// Sixteen tasks: fifteen that are released about every thousand ticks, some of them with locks, and a long one that is released last and runs to the end.
 fn two_million_ticks() -> (Set, Script) {
-    let task = |period: u32, deadline: u32, lock: u32, time: u32| Task { period, deadline, lock, frames: vec![time] };
-    let mut tasks: Vec<Task> = (1..MOST_TASKS as u32).map(|i| task(1_000 + 16 * i, 900 + 16 * i, 3, 30)).collect();
-    tasks.push(task(MOST_TICKS, MOST_TICKS, 0, MOST_TICKS));
+    let short = |i: u32| Task::with_one_deadline(1_000 + 16 * i, 900 + 16 * i, 3, &[30]);
+    let mut tasks: Vec<Task> = (1..MOST_TASKS as u32).map(short).collect();
+    tasks.push(plain(MOST_TICKS, &[MOST_TICKS]));
     let mut entries = vec![Release { task: 15, tick: MOST_TICKS, work: MOST_TICKS, lock: 0 }];
     for (i, task) in tasks.iter().enumerate().take(15) {
         let ticks = (i as u32..=MOST_TICKS).step_by(task.period as usize);
@@ -124,19 +139,18 @@ fn two_million_ticks() -> (Set, Script) {
 
 /// Sixteen tasks that are released at every tick, a hundred thousand entries in all; of the sixteen of the first tick fifteen miss at once, so that the call judges the script and plays one tick.
 fn hundred_thousand_entries() -> (Set, Script) {
-    let tasks = vec![Task { period: 1, deadline: 1, lock: 0, frames: vec![1] }; MOST_TASKS];
+    let tasks = vec![plain(1, &[1]); MOST_TASKS];
     let entries = (0..100_000u32).map(|j| Release { task: j % 16, tick: j / 16, work: 1, lock: 0 }).collect();
     (Set { policy: 0, tasks }, Script { first_frames: vec![0; MOST_TASKS], entries })
 }
 
 /// A long deadline that is missed below tasks of short periods: some 830,000 entries.
 fn long_worst_run() -> Set {
-    let plain = |period: u32, time: u32| Task { period, deadline: period, lock: 0, frames: vec![time] };
-    Set { policy: 0, tasks: vec![plain(2, 1), plain(5, 1), plain(11, 2), plain(MOST_TICKS, 200_000)] }
+    Set { policy: 0, tasks: vec![plain(2, &[1]), plain(5, &[1]), plain(11, &[2]), plain(MOST_TICKS, &[200_000])] }
 }
 
 fn worst_by_turns(what: &str, set: &Set, turns: usize) {
-    let sheet = sheet::write(set);
+    let sheet = sheet::write(1, set);
     let (mut ours, mut theirs) = (vec![0u8; 9_000_000], vec![0u8; 9_000_000]);
     let proved = || unsafe { burrbeech_worst_run(sheet.as_ptr(), sheet.len(), ours.as_mut_ptr(), ours.len()) };
     measure_long(what, turns, proved, || answers::worst_run(&sheet, &mut theirs));
@@ -145,15 +159,20 @@ fn worst_by_turns(what: &str, set: &Set, turns: usize) {
 
 fn main() {
     let mut random = Random::new(60);
-    let sets: Vec<Set> = (0..2_000).map(|_| typical(&mut random)).collect();
-    measure("typical: 1 to 6 tasks, 1 to 3 frames", &sets, 20, 7);
-    let sets: Vec<Set> = (0..2_000).map(|_| generate::admitted_set(&mut random)).collect();
-    measure("any: 1 to 16 tasks, 1 to 8 frames", &sets, 10, 5);
-    let [missing, holding] = generate::costly_sets();
-    measure("slow climb to a miss", &[missing], 1, 20);
-    measure("slow climb to times, equal frames", &[holding], 1, 4);
-    measure("slow climb to times, one larger frame", &[one_larger_frame()], 1, 10);
-    measure("the costliest found", &[costliest_found()], 1, 3);
+    for version in VERSIONS {
+        let sheets: Vec<Vec<u8>> = (0..2_000).map(|_| typical(&mut random, version)).collect();
+        measure(&format!("typical, version {version}: 1 to 6 tasks, 1 to 3 frames"), &sheets, 20, 7);
+    }
+    let sheets: Vec<Vec<u8>> = (0..2_000).map(|_| any(&mut random)).collect();
+    measure("any: 1 to 16 tasks, 1 to 8 frames, both versions", &sheets, 10, 5);
+    let [missing, holding, different] = generate::costly_sets();
+    measure("slow climb to a miss", &[sheet::write(1, &missing)], 1, 20);
+    measure("slow climb to times, equal frames", &[sheet::write(1, &holding)], 1, 4);
+    measure("slow climb to times, eight different deadlines", &[sheet::write(2, &different)], 1, 4);
+    measure("slow climb to times, one larger frame", &[sheet::write(1, &one_larger_frame())], 1, 10);
+    let costliest = costliest_found();
+    measure("the costliest found", &[sheet::write(1, &costliest)], 1, 3);
+    measure("the costliest found, eight different deadlines", &[sheet::write(2, &with_different_deadlines(&costliest))], 1, 3);
     let (set, script) = two_million_ticks();
     play_by_turns("a play of two million ticks, sixteen tasks", &set, &script, 5);
     let (set, script) = hundred_thousand_entries();

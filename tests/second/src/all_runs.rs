@@ -32,6 +32,14 @@ struct Pending {
     left: [u8; BACKLOG],
 }
 
+impl Pending {
+    /// The frame of the task's last job.
+    fn last_frame(&self, task: &Task) -> usize {
+        let frames = task.frames.len();
+        (usize::from(self.next_frame) + frames - 1) % frames
+    }
+}
+
 /// All that the past of a run decides about its future: tasks in priority order and the stretch under way.
 #[derive(Clone, Copy, Default)]
 struct State {
@@ -162,19 +170,19 @@ impl Search<'_> {
     fn complete(&mut self, pending: Pending, place: usize) {
         let (task, number) = (self.tasks[place], self.order[place]);
         let took = u32::from(pending.since) + 1;
-        if took <= task.deadline {
-            let frames = task.frames.len();
-            let worst = &mut self.found.worst[number][(usize::from(pending.next_frame) + frames - 1) % frames];
+        let frame = pending.last_frame(task);
+        if took <= task.deadlines[frame] {
+            let worst = &mut self.found.worst[number][frame];
             *worst = took.max(*worst);
         }
     }
 
-    /// The tick has passed: deadlines reached with work left are missed.
+    /// The tick has passed: deadlines reached with work left are missed. An older job than the last one released has missed before.
     fn passed(&mut self, mut state: State) {
         for (place, task) in self.tasks.iter().enumerate() {
             let pending = &mut state.tasks[place];
             pending.since = (pending.since + 1).min(task.period as u8);
-            if pending.left[0] > 0 && u32::from(pending.since) >= task.deadline {
+            if pending.left[0] > 0 && u32::from(pending.since) >= task.deadlines[pending.last_frame(task)] {
                 self.found.misses[self.order[place]] = true;
             }
         }

@@ -46,7 +46,7 @@ pub fn order(set: &Set) -> Vec<usize> {
     let mut order: Vec<usize> = (0..set.tasks.len()).collect();
     match set.policy {
         RATE_MONOTONIC => order.sort_by_key(|&i| set.tasks[i].period),
-        DEADLINE_MONOTONIC => order.sort_by_key(|&i| set.tasks[i].deadline),
+        DEADLINE_MONOTONIC => order.sort_by_key(|&i| set.tasks[i].smallest_deadline()),
         _ => {}
     }
     order
@@ -108,10 +108,9 @@ pub fn response_time(blocking: u32, frame: u32, higher: &[Higher], deadline: u32
     None
 }
 
-/// The response times of a task's frames, if its largest frame has one.
+/// The response times of a task's frames, if each has one within its own deadline.
 fn times_of(task: &Task, blocking: u32, higher: &[Higher]) -> Option<Vec<u32>> {
-    response_time(blocking, task.largest_frame(), higher, task.deadline)?;
-    task.frames.iter().map(|&c| response_time(blocking, c, higher, task.deadline)).collect()
+    task.frames.iter().zip(&task.deadlines).map(|(&c, &d)| response_time(blocking, c, higher, d)).collect()
 }
 
 /// The analysis of an admitted set.

@@ -19,9 +19,9 @@ pub fn refused(refusal: Refusal) -> u64 {
     u64::from(refusal.number()) + 256 * detail as u64
 }
 
-/// The task count in bits 0 to 7, the policy in bits 8 to 15.
-pub fn read((policy, tasks): (u32, usize)) -> u64 {
-    tasks as u64 + (u64::from(policy) << 8)
+/// The task count in bits 0 to 7, the policy in bits 8 to 15, the version in bits 16 to 23.
+pub fn read((version, policy, tasks): (u32, u32, usize)) -> u64 {
+    tasks as u64 + (u64::from(policy) << 8) + (u64::from(version) << 16)
 }
 
 /// The outcome in bits 0 to 15, the task count in bits 16 to 23.

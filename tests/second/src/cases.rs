@@ -1,6 +1,6 @@
-//! The sets worked by hand, cases A to M.
+//! The sets worked by hand: cases A to M of the scope, and N and O with a deadline for each frame.
 use crate::refusal::{NoStart, Refusal};
-use crate::sheet;
+use crate::sheet::{self, VERSIONS};
 use crate::task::{Set, Task};
 
 /// What the scope says of a case.
@@ -26,13 +26,9 @@ pub struct Case {
     pub expected: Expected,
 }
 
-fn task(period: u32, deadline: u32, lock: u32, frames: &[u32]) -> Task {
-    Task { period, deadline, lock, frames: frames.to_vec() }
-}
-
 /// D = T and Q = 0, as the scope has them unless given.
 fn plain(period: u32, frames: &[u32]) -> Task {
-    task(period, period, 0, frames)
+    Task::with_one_deadline(period, period, 0, frames)
 }
 
 fn holds(name: &'static str, policy: u32, tasks: &[Task], times: &[&[u32]]) -> Case {
@@ -52,11 +48,11 @@ fn refused(name: &'static str, policy: u32, tasks: &[Task], refusal: Refusal) ->
 
 /// F, G and H differ in the lock of task 1.
 fn locked(lock: u32) -> [Task; 2] {
-    [task(10, 4, 0, &[2]), task(20, 20, lock, &[5])]
+    [Task::with_one_deadline(10, 4, 0, &[2]), Task::with_one_deadline(20, 20, lock, &[5])]
 }
 
 pub fn cases() -> Vec<Case> {
-    let l = [task(10, 5, 0, &[1]), task(8, 5, 0, &[1])];
+    let l = [Task::with_one_deadline(10, 5, 0, &[1]), Task::with_one_deadline(8, 5, 0, &[1])];
     let why = NoStart { frame: 2, length: 2, other: 1 };
     vec![
         holds("a", 1, &[plain(100, &[40]), plain(150, &[40]), plain(350, &[100])], &[&[40], &[80], &[300]]),
@@ -76,7 +72,24 @@ pub fn cases() -> Vec<Case> {
     ]
 }
 
-/// File names and bytes of the cases' sheets; I is a sheet too, though one that is refused.
+/// N and O, which only version 2 can hold: in N one of two equal frames is late, O is ordered by the smallest deadlines.
+pub fn cases_of_version_2() -> Vec<Case> {
+    let apart =
+        |period, frames: [u32; 2], deadlines: [u32; 2]| Task { period, lock: 0, frames: frames.into(), deadlines: deadlines.into() };
+    let n = [plain(5, &[2]), apart(10, [3, 3], [6, 4])];
+    let o = [apart(20, [4, 2], [10, 5]), Task::with_one_deadline(12, 7, 3, &[3])];
+    vec![missed("n", 0, &n, (1, None), &[&[2], &[]]), holds("o", 2, &o, &[&[6, 4], &[7]])]
+}
+
+/// Every case in each version that can hold it.
+pub fn cases_in_versions() -> Vec<(u32, Case)> {
+    let of_both = VERSIONS.into_iter().flat_map(|version| cases().into_iter().map(move |case| (version, case)));
+    of_both.chain(cases_of_version_2().into_iter().map(|case| (2, case))).collect()
+}
+
+/// File names and bytes of the cases' sheets, each in the first version that can hold it; I is a sheet too, though one that is refused.
 pub fn sheets() -> Vec<(String, Vec<u8>)> {
-    cases().iter().map(|case| (format!("{}.sheet", case.name), sheet::write(&case.set))).collect()
+    let of_one = cases().into_iter().map(|case| (1, case));
+    let of_two = cases_of_version_2().into_iter().map(|case| (2, case));
+    of_one.chain(of_two).map(|(version, case)| (format!("{}.sheet", case.name), sheet::write(version, &case.set))).collect()
 }

@@ -1,4 +1,5 @@
-//! Inputs for comparisons: admitted sets of every size, and sheets and lists damaged in every way of the refusal table.
+//! Inputs for comparisons: admitted sets of every size, and sheets of both versions and lists damaged in every way of the refusal table.
+use crate::analysis;
 use crate::check_word;
 use crate::random::Random;
 use crate::refusal::{NoStart, Refusal};
@@ -14,8 +15,10 @@ pub struct Shape {
     pub least_period: u32,
     pub greatest_period: u32,
     pub most_lock: u32,
-    /// How far D may stand before T: thousandths of the way to the largest frame.
+    /// How far a deadline may stand before T: thousandths of the way to its frame, or to the largest if it is that of all.
     pub most_early: u32,
+    /// Whether each frame has a deadline of its own.
+    pub apart: bool,
     /// Thousandths of the processor, all tasks together.
     pub load: u32,
 }
@@ -42,7 +45,8 @@ pub fn shape(random: &mut Random) -> Shape {
     let spread = scaled(random, 2, 10_000);
     let most_frames = between(random, 1, MOST_FRAMES as u32);
     let locks = [0, 2, least_period / 16 + 2, least_period / 4, MOST_TICKS];
-    let early = [0, 0, 200, 1_000];
+    let apart = one_in(random, 2);
+    let early = if apart { [100, 200, 400, 1_000] } else { [0, 0, 200, 1_000] };
     Shape {
         tasks: if one_in(random, 6) { MOST_TASKS } else { between(random, 1, MOST_TASKS as u32) as usize },
         least_frames: if one_in(random, 3) { most_frames } else { 1 },
@@ -51,6 +55,7 @@ pub fn shape(random: &mut Random) -> Shape {
         greatest_period: least_period.saturating_mul(spread).min(MOST_TICKS),
         most_lock: locks[random.below(5) as usize],
         most_early: early[random.below(4) as usize],
+        apart,
         load: between(random, 300, 1_300),
     }
 }
@@ -85,16 +90,130 @@ fn task_of(random: &mut Random, shape: Shape, load: u64) -> Task {
     let round = u64::from(period) * count * load / 1_000;
     let all: u64 = parts.iter().sum();
     let frames = parts.iter().map(|part| (part * round / all).clamp(1, u64::from(period)) as u32).collect();
-    finished(random, period, frames, (shape.most_early, shape.most_lock))
+    finished(random, period, frames, Finish { most_early: shape.most_early, most_lock: shape.most_lock, apart: shape.apart })
 }
 
-/// A task with these frames in an order with a start frame, and a deadline and a lock that fit.
-fn finished(random: &mut Random, period: u32, frames: Vec<u32>, (most_early, most_lock): (u32, u32)) -> Task {
+/// What a task's deadlines and lock shall look like, as a `Shape` has it.
+#[derive(Clone, Copy)]
+struct Finish {
+    most_early: u32,
+    most_lock: u32,
+    apart: bool,
+}
+
+impl Finish {
+    fn any(random: &mut Random) -> Self {
+        Finish { most_early: 1_000, most_lock: MOST_TICKS, apart: one_in(random, 2) }
+    }
+
+    /// One deadline for all frames, which is T.
+    const LATEST: Finish = Finish { most_early: 0, most_lock: MOST_TICKS, apart: false };
+}
+
+/// A task with these frames in an order with a start frame, and deadlines and a lock that fit.
+fn finished(random: &mut Random, period: u32, frames: Vec<u32>, finish: Finish) -> Task {
     let largest = *frames.iter().max().expect("no frame");
-    let slack = u64::from(period - largest) * u64::from(most_early) / 1_000;
-    let early = if one_in(random, 2) { 0 } else { random.below(slack + 1) as u32 };
-    let lock = if one_in(random, 3) { 0 } else { between(random, 0, largest.min(most_lock)) };
-    Task { period, deadline: period - early, lock, frames: arranged(random, frames) }
+    let lock = if one_in(random, 3) { 0 } else { between(random, 0, largest.min(finish.most_lock)) };
+    let frames = arranged(random, frames);
+    let deadlines = deadlines(random, period, &frames, finish);
+    Task { period, lock, frames, deadlines }
+}
+
+/// Deadlines at T or before it, now and then as early as they may be: one for each frame, or the same for all.
+fn deadlines(random: &mut Random, period: u32, frames: &[u32], finish: Finish) -> Vec<u32> {
+    let mut deadline = |frame: u32| {
+        let slack = (u64::from(period - frame) * u64::from(finish.most_early) / 1_000) as u32;
+        match random.below(12) {
+            0 => period - slack,
+            1..=5 => period - between(random, 0, slack),
+            _ => period,
+        }
+    };
+    if finish.apart {
+        frames.iter().map(|&frame| deadline(frame)).collect()
+    } else {
+        vec![deadline(*frames.iter().max().expect("no frame")); frames.len()]
+    }
+}
+
+/// The set with deadlines at the response times that it has when each is T, or a tick beside them: any frame may decide.
+pub fn tight(random: &mut Random, set: &Set) -> Set {
+    // not policy 2, which would order the tasks anew
+    let tasks = set.tasks.iter().map(|task| task.due_by(task.period)).collect();
+    let mut set = Set { policy: random.below(2) as u32, tasks };
+    let answers = analysis::analyse(&set).answers;
+    let rarely = 1 + random.below(100);
+    for (task, answer) in set.tasks.iter_mut().zip(answers) {
+        for (frame, time) in answer.times.into_iter().flatten().enumerate() {
+            let beside = if one_in(random, rarely) { time - 1 } else { time + random.below(2) as u32 };
+            task.deadlines[frame] = beside.clamp(task.frames[frame], task.period);
+        }
+    }
+    set
+}
+
+/// Such a set of this shape with less load and shorter locks, so that most tasks have response times.
+pub fn tight_set(random: &mut Random, shape: Shape) -> Set {
+    let (load, most_lock) = (between(random, 100, 600), shape.most_lock.min(shape.least_period / 8 + 2));
+    let set = set_of(random, Shape { load, most_lock, ..shape });
+    tight(random, &set)
+}
+
+/// A task by another reading of its deadlines.
+pub type Reading = fn(&Task) -> Task;
+
+/// Readings that are wrong: they show whether inputs would tell.
+pub const WRONG_READINGS: [(&str, Reading); 5] = [
+    ("the smallest for all frames", |task| task.due_by(task.smallest_deadline())),
+    ("the latest for all frames", |task| task.due_by(task.latest_deadline())),
+    ("the first frame's for all", |task| task.due_by(task.deadlines[0])),
+    ("the largest frame's for all", |task| task.due_by(deadline_of_time(task, task.largest_frame()))),
+    ("one for frames of equal time", |task| Task {
+        deadlines: task.frames.iter().map(|&time| deadline_of_time(task, time)).collect(),
+        ..task.clone()
+    }),
+];
+
+/// The deadline of the first frame of this time.
+fn deadline_of_time(task: &Task, time: u32) -> u32 {
+    let frame = task.frames.iter().position(|&c| c == time).expect("no such frame");
+    task.deadlines[frame]
+}
+
+/// The set with each task so read.
+pub fn read_as(set: &Set, reading: Reading) -> Set {
+    Set { policy: set.policy, tasks: set.tasks.iter().map(reading).collect() }
+}
+
+/// A version whose sheet can hold the set: 2, or either if each task has one deadline.
+pub fn version_for(random: &mut Random, set: &Set) -> u32 {
+    if set.has_one_deadline_each() && !one_in(random, 3) {
+        1
+    } else {
+        2
+    }
+}
+
+/// The set's sheet in such a version.
+pub fn sheet_of(random: &mut Random, set: &Set) -> Vec<u8> {
+    sheet::write(version_for(random, set), set)
+}
+
+/// No versions that there are, some of them one in their low bits.
+pub const NO_VERSIONS: [u32; 10] = [0, 3, 4, 15, 16, 17, 18, 257, 1 << 16 | 2, u32::MAX];
+
+/// A version to tell an entry: mostly one that there is.
+pub fn any_version(random: &mut Random) -> u32 {
+    match random.below(20) {
+        0 => random.next() as u32,
+        1 => NO_VERSIONS[random.below(NO_VERSIONS.len() as u64) as usize],
+        n => sheet::VERSIONS[n as usize % 2],
+    }
+}
+
+/// The set with one deadline for each task, the latest that it has.
+pub fn with_one_deadline_each(set: &Set) -> Set {
+    read_as(set, |task| task.due_by(task.latest_deadline()))
 }
 
 /// The frames in some order that has a start frame: falling from anywhere if no other is found soon.
@@ -133,9 +252,10 @@ pub fn set_of_lists(random: &mut Random) -> Set {
         let frames = frame_list(random);
         let largest = *frames.iter().max().expect("no frame");
         let period = between(random, largest, (64 * largest).min(MOST_TICKS));
-        let good = finished(random, period, frames.clone(), (1_000, MOST_TICKS));
+        let finish = Finish::any(random);
+        let good = finished(random, period, frames.clone(), finish);
         if one_in(random, u64::from(tasks)) {
-            Task { frames, ..good }
+            Task { deadlines: deadlines(random, period, &frames, finish), frames, ..good }
         } else {
             good
         }
@@ -158,12 +278,13 @@ pub fn edge_set(random: &mut Random) -> Set {
         let (period, below) = (edge(random), edge(random));
         let count = between(random, 1, MOST_FRAMES as u32);
         let frames = (0..count).map(|_| edge(random).min(period).min(below)).collect();
-        finished(random, period, frames, (1_000, MOST_TICKS))
+        let finish = Finish::any(random);
+        finished(random, period, frames, finish)
     };
     Set { policy: random.below(3) as u32, tasks: (0..tasks).map(|_| task(random)).collect() }
 }
 
-/// A set for `all_runs`: two or three tasks, periods up to 6; some ask for a little more than the processor has.
+/// A set for `all_runs`: two or three tasks, periods up to 6; some ask for a little more than the processor has, some have tight deadlines.
 pub fn tiny_set(random: &mut Random) -> Set {
     if one_in(random, 5) {
         return tiny_rounds(random);
@@ -173,7 +294,7 @@ pub fn tiny_set(random: &mut Random) -> Set {
         let tasks = (0..tasks).map(|_| tiny_task(random, most_frames)).collect();
         let set = Set { policy: random.below(3) as u32, tasks };
         if load(&set) <= 1.0 || load(&set) <= 1.3 && one_in(random, 3) {
-            return set;
+            return if one_in(random, 3) { tight(random, &set) } else { set };
         }
     }
 }
@@ -182,8 +303,8 @@ pub fn tiny_set(random: &mut Random) -> Set {
 fn tiny_rounds(random: &mut Random) -> Set {
     let (period, count) = (between(random, 2, 3), between(random, 3, 4));
     let frames = (0..count).map(|_| if one_in(random, 2) { period } else { 1 }).collect();
-    let short = finished(random, period, frames, (0, MOST_TICKS));
-    let long = finished(random, 6, vec![1], (0, MOST_TICKS));
+    let short = finished(random, period, frames, Finish::LATEST);
+    let long = finished(random, 6, vec![1], Finish::LATEST);
     Set { policy: random.below(3) as u32, tasks: vec![short, long] }
 }
 
@@ -195,39 +316,52 @@ fn tiny_task(random: &mut Random, most_frames: u32) -> Task {
     let largest = between(random, 1, most);
     let count = between(random, 1, most_frames);
     let frames = (0..count).map(|_| between(random, 1, largest)).collect();
-    let task = finished(random, period, frames, (1_000, MOST_TICKS));
+    let finish = Finish::any(random);
+    let task = finished(random, period, frames, finish);
     let lock = if one_in(random, 2) { task.largest_frame() } else { task.lock };
     Task { lock, ..task }
 }
 
-/// Sets of one task, of two, and so on, round after round; some at the limits of the numbers.
+/// Sets of one task, of two, and so on, round after round; some at the limits of the numbers, some with tight deadlines.
 pub fn sets_of_every_size(seed: u64, count: usize) -> impl Iterator<Item = Set> {
     let mut random = Random::new(seed);
     (0..count).map(move |i| {
         let tasks = i % MOST_TASKS + 1;
         let shape = Shape { tasks, ..shape(&mut random) };
-        if i % 7 == 0 {
-            edge_set(&mut random)
-        } else {
-            set_of(&mut random, shape)
+        match i % 7 {
+            0 => edge_set(&mut random),
+            1 => tight_set(&mut random, shape),
+            _ => set_of(&mut random, shape),
         }
     })
 }
 
-/// Sets that take the equation the most rounds: one climbs by a tick or so to a miss, one to a time that holds.
-pub fn costly_sets() -> [Set; 2] {
-    let plain = |period: u32, frames: Vec<u32>| Task { period, deadline: period, lock: 0, frames };
-    let mut missing = vec![plain(1, vec![1])];
-    missing.extend((1..MOST_TASKS).map(|_| plain(MOST_TICKS, vec![1; MOST_FRAMES])));
-    let mut holding = vec![plain(2, vec![2, 2, 2, 2, 2, 2, 2, 1]), plain(17, vec![1]), plain(273, vec![1])];
-    holding.extend((3..MOST_TASKS).map(|_| plain(MOST_TICKS, vec![1; MOST_FRAMES])));
-    [missing, holding].map(|tasks| Set { policy: 0, tasks })
+/// Sets that take the equation the most rounds: one climbs by a tick or so to a miss, one to a time that holds, one to such times with eight different deadlines.
+pub fn costly_sets() -> [Set; 3] {
+    let plain = |period: u32, frames: &[u32]| Task::with_one_deadline(period, period, 0, frames);
+    let mut missing = vec![plain(1, &[1])];
+    missing.extend((1..MOST_TASKS).map(|_| plain(MOST_TICKS, &[1; MOST_FRAMES])));
+    let mut holding = vec![plain(2, &[2, 2, 2, 2, 2, 2, 2, 1]), plain(17, &[1]), plain(273, &[1])];
+    holding.extend((3..MOST_TASKS).map(|_| plain(MOST_TICKS, &[1; MOST_FRAMES])));
+    let different = holding.iter().map(with_different_deadlines).collect();
+    [missing, holding, different].map(|tasks| Set { policy: 0, tasks })
+}
+
+/// A task of the longest period with a deadline at T, one a tick before it and so on, frame by frame; any other as it is.
+pub fn with_different_deadlines(task: &Task) -> Task {
+    let mut apart = task.clone();
+    if task.period == MOST_TICKS {
+        apart.deadlines = (0..task.frames.len() as u32).map(|k| MOST_TICKS - k).collect();
+    }
+    apart
 }
 
 /// The numbers of a sheet, each free to be wrong within its field.
 #[derive(Clone, Debug)]
 pub struct Draft {
     pub version: u32,
+    /// The version whose fields the tasks have, whatever the header says.
+    pub layout: u32,
     pub policy: u32,
     pub count: u32,
     pub spare: u32,
@@ -241,32 +375,46 @@ pub struct Draft {
 #[derive(Clone, Debug)]
 pub struct DraftTask {
     pub period: u32,
-    pub deadline: u32,
     pub lock: u32,
     pub frame_count: u32,
     pub frames: Vec<u32>,
+    /// As many as frames; version 1 has a field for the first alone.
+    pub deadlines: Vec<u32>,
+}
+
+impl DraftTask {
+    fn fields(&self, layout: u32) -> Vec<(usize, u32)> {
+        let mut fields = match layout {
+            1 => vec![(20, self.period), (20, self.deadlines[0]), (20, self.lock), (4, self.frame_count)],
+            _ => vec![(20, self.period), (20, self.lock), (4, self.frame_count)],
+        };
+        for (&frame, &deadline) in self.frames.iter().zip(&self.deadlines) {
+            fields.push((20, frame));
+            if layout != 1 {
+                fields.push((20, deadline));
+            }
+        }
+        fields
+    }
 }
 
 impl Draft {
-    pub fn of(set: &Set) -> Self {
+    pub fn of(version: u32, set: &Set) -> Self {
         let draft = |t: &Task| DraftTask {
             period: t.period,
-            deadline: t.deadline,
             lock: t.lock,
             frame_count: t.frames.len() as u32,
             frames: t.frames.clone(),
+            deadlines: t.deadlines.clone(),
         };
-        let tasks = set.tasks.iter().map(draft).collect();
-        Draft { version: 1, policy: set.policy, count: set.tasks.len() as u32, spare: 0, tasks, fill: 0, surplus: vec![] }
+        let (count, tasks) = (set.tasks.len() as u32, set.tasks.iter().map(draft).collect());
+        Draft { version, layout: version, policy: set.policy, count, spare: 0, tasks, fill: 0, surplus: vec![] }
     }
 
     /// Every field with its width.
     fn fields(&self) -> Vec<(usize, u32)> {
         let mut fields = vec![(4, self.version), (2, self.policy), (5, self.count), (5, self.spare)];
-        for task in &self.tasks {
-            fields.extend([(20, task.period), (20, task.deadline), (20, task.lock), (4, task.frame_count)]);
-            fields.extend(task.frames.iter().map(|&frame| (20, frame)));
-        }
+        fields.extend(self.tasks.iter().flat_map(|task| task.fields(self.layout)));
         fields
     }
 
@@ -308,17 +456,17 @@ pub struct DamagedList {
     pub refusal: Refusal,
 }
 
-/// The admitted set's sheet with one thing wrong, in every way of the scope's table but 12, with a right check word where a later refusal is meant.
-pub fn damaged_sheets(random: &mut Random, set: &Set) -> Vec<DamagedSheet> {
+/// The admitted set's sheet, of a version that can hold it, with one thing wrong, in every way of the scope's table but 12, with a right check word where a later refusal is meant.
+pub fn damaged_sheets(random: &mut Random, version: u32, set: &Set) -> Vec<DamagedSheet> {
     let mut damaged = Vec::new();
-    let draft = Draft::of(set);
+    let draft = Draft::of(version, set);
     wrong_lengths(random, &draft, &mut damaged);
     wrong_check_words(random, &draft, &mut damaged);
     wrong_headers(&draft, &mut damaged);
     wrong_frame_counts(&draft, &mut damaged);
     wrong_records(random, &draft, &mut damaged);
     wrong_fills(&draft, &mut damaged);
-    wrong_tasks(random, set, &mut damaged);
+    wrong_tasks(random, version, set, &mut damaged);
     damaged
 }
 
@@ -373,7 +521,7 @@ fn wrong_check_words(random: &mut Random, draft: &Draft, damaged: &mut Vec<Damag
 }
 
 fn wrong_headers(draft: &Draft, damaged: &mut Vec<DamagedSheet>) {
-    for version in (0..16).filter(|&v| v != 1) {
+    for version in (0..16).filter(|v| !sheet::VERSIONS.contains(v)) {
         push(damaged, "version", changed(draft, |d| d.version = version), Refusal::Version);
     }
     push(damaged, "policy 3", changed(draft, |d| d.policy = 3), Refusal::Policy);
@@ -425,12 +573,12 @@ fn wrong_fills(draft: &Draft, damaged: &mut Vec<DamagedSheet>) {
     }
 }
 
-/// The refusals 9, 10 and 11 of a list that can be told in a sheet's fields.
-fn wrong_tasks(random: &mut Random, set: &Set, damaged: &mut Vec<DamagedSheet>) {
+/// The refusals 9, 10 and 11 of a list that can be told in the fields of a sheet of this version.
+fn wrong_tasks(random: &mut Random, version: u32, set: &Set, damaged: &mut Vec<DamagedSheet>) {
     for (way, wrong, refusal) in wrong_sets(random, set) {
-        let fits = |t: &Task| t.frames.iter().chain([&t.period, &t.deadline, &t.lock]).all(|&n| n <= MOST_TICKS);
-        if wrong.tasks.iter().all(fits) {
-            push(damaged, way, Draft::of(&wrong).bytes(), refusal);
+        let fits = |t: &Task| t.frames.iter().chain(&t.deadlines).chain([&t.period, &t.lock]).all(|&n| n <= MOST_TICKS);
+        if wrong.tasks.iter().all(fits) && (version != 1 || wrong.has_one_deadline_each()) {
+            push(damaged, way, Draft::of(version, &wrong).bytes(), refusal);
         }
     }
 }
@@ -441,6 +589,7 @@ pub fn wrong_sets(random: &mut Random, set: &Set) -> Vec<(&'static str, Set, Ref
     for number in 0..set.tasks.len() {
         let good = &set.tasks[number];
         let mut all = wrong_ticks(good);
+        all.extend(wrong_deadlines(good));
         all.extend(wrong_frames(good));
         let mut all: Vec<_> = all.into_iter().map(|(way, task)| (way, task, Refusal::NotWellFormed(number))).collect();
         all.extend(wrong_locks(good).into_iter().map(|(way, task)| (way, task, Refusal::Lock(number))));
@@ -455,27 +604,46 @@ pub fn wrong_sets(random: &mut Random, set: &Set) -> Vec<(&'static str, Set, Ref
     wrong
 }
 
-/// T, D and Q at 0, out of range or in the wrong order.
+/// T, D of all frames and Q at 0, out of range or in the wrong order.
 fn wrong_ticks(good: &Task) -> Vec<(&'static str, Task)> {
-    let largest = good.largest_frame();
     let mut wrong = vec![
         ("T 0", Task { period: 0, ..good.clone() }),
-        ("D 0", Task { deadline: 0, ..good.clone() }),
-        ("T below D", Task { period: good.deadline - 1, ..good.clone() }),
-        ("D above T", Task { deadline: good.period + 1, ..good.clone() }),
-        ("D below a frame", Task { deadline: largest - 1, ..good.clone() }),
-        ("T and D 0", Task { period: 0, deadline: 0, ..good.clone() }),
+        ("D 0", good.due_by(0)),
+        ("T below D", Task { period: good.latest_deadline() - 1, ..good.clone() }),
+        ("D above T", good.due_by(good.period + 1)),
+        ("D below a frame", good.due_by(good.largest_frame() - 1)),
+        ("T and D 0", Task { period: 0, ..good.due_by(0) }),
     ];
     for beyond in [MOST_TICKS + 1, 1 << 31, u32::MAX] {
         wrong.push(("T beyond", Task { period: beyond, ..good.clone() }));
-        wrong.push(("D beyond", Task { deadline: beyond, ..good.clone() }));
-        wrong.push(("T and D beyond", Task { period: beyond, deadline: beyond, ..good.clone() }));
+        wrong.push(("D beyond", good.due_by(beyond)));
+        wrong.push(("T and D beyond", Task { period: beyond, ..good.due_by(beyond) }));
         wrong.push(("Q beyond", Task { lock: beyond, ..good.clone() }));
     }
     wrong
 }
 
-/// Each frame at 0, above D or out of range.
+/// Each frame's deadline at 0, below the frame, above T or out of range, the others right.
+fn wrong_deadlines(good: &Task) -> Vec<(&'static str, Task)> {
+    let mut wrong = Vec::new();
+    for frame in 0..good.frames.len() {
+        let ways = [
+            ("one D 0", 0),
+            ("one D below its frame", good.frames[frame] - 1),
+            ("one D above T", good.period + 1),
+            ("one D beyond", MOST_TICKS + 1),
+            ("one D far beyond", u32::MAX),
+        ];
+        for (way, deadline) in ways {
+            let mut task = good.clone();
+            task.deadlines[frame] = deadline;
+            wrong.push((way, task));
+        }
+    }
+    wrong
+}
+
+/// Each frame at 0, above its D or out of range.
 fn wrong_frames(good: &Task) -> Vec<(&'static str, Task)> {
     let mut wrong = Vec::new();
     let with = |frame: usize, time: u32| {
@@ -485,7 +653,7 @@ fn wrong_frames(good: &Task) -> Vec<(&'static str, Task)> {
     };
     for frame in 0..good.frames.len() {
         wrong.push(("frame 0", with(frame, 0)));
-        wrong.push(("frame above D", with(frame, good.deadline + 1)));
+        wrong.push(("frame above D", with(frame, good.deadlines[frame] + 1)));
         wrong.push(("frame beyond", with(frame, MOST_TICKS + 1)));
         wrong.push(("frame far beyond", with(frame, u32::MAX)));
     }
@@ -500,15 +668,17 @@ fn wrong_locks(good: &Task) -> Vec<(&'static str, Task)> {
     above.map(|(way, lock)| (way, Task { lock, ..good.clone() })).collect()
 }
 
-/// The task with a frame list that has no start, and why; a deadline below 3 is too short for a list like that and is raised.
+/// The task with a frame list that has no start, and why; a deadline below 3 is too short for a list like that and is raised. One that is that of all frames stays so.
 pub fn not_monotonic(random: &mut Random, good: &Task) -> (Task, NoStart) {
-    let (deadline, period) = (good.deadline.max(3), good.period.max(3));
+    let (deadline, period) = (good.smallest_deadline().max(3), good.period.max(3));
     loop {
         let count = between(random, 3, MOST_FRAMES as u32);
         let frames: Vec<u32> = (0..count).map(|_| between(random, 1, deadline)).collect();
         if let Err(why) = start_frame(&frames) {
             let lock = good.lock.min(*frames.iter().max().expect("no frame"));
-            return (Task { period, deadline, lock, frames }, why);
+            let latest = if good.has_one_deadline() { deadline } else { period };
+            let deadlines = frames.iter().map(|_| between(random, deadline, latest)).collect();
+            return (Task { period, lock, frames, deadlines }, why);
         }
     }
 }
@@ -541,6 +711,7 @@ pub fn littered(random: &mut Random, mut list: Vec<Record>) -> Vec<Record> {
     for record in &mut list {
         let used = (record.frame_count as usize).min(MOST_FRAMES);
         record.frames[used..].fill_with(|| random.next() as u32);
+        record.deadlines[used..].fill_with(|| random.next() as u32);
     }
     list
 }
@@ -561,7 +732,7 @@ pub fn likely_room(random: &mut Random, need: usize) -> usize {
 
 /// A sheet with a right check word and up to four fields of any value, so that several refusals contend.
 pub fn muddled_sheet(random: &mut Random, set: &Set) -> Vec<u8> {
-    let mut draft = Draft::of(set);
+    let mut draft = Draft::of(version_for(random, set), set);
     for _ in 0..between(random, 1, 4) {
         muddle(random, &mut draft);
     }
@@ -586,14 +757,15 @@ fn muddle(random: &mut Random, draft: &mut Draft) {
 
 fn muddle_task(random: &mut Random, draft: &mut Draft) {
     let number = random.below(draft.tasks.len() as u64) as usize;
+    let layout = draft.layout;
     let task = &mut draft.tasks[number];
-    let near = [0, 1, task.period, task.deadline, task.lock, MOST_TICKS, random.below(1 << 20) as u32];
-    let near = near[random.below(7) as usize];
-    let ticks = (near + random.below(3) as u32).saturating_sub(1).min(MOST_TICKS);
     let frame = random.below(task.frames.len() as u64) as usize;
+    let near = [0, 1, task.period, task.deadlines[frame], task.frames[frame], task.lock, MOST_TICKS, random.below(1 << 20) as u32];
+    let near = near[random.below(8) as usize];
+    let ticks = (near + random.below(3) as u32).saturating_sub(1).min(MOST_TICKS);
     match random.below(6) {
         0 => task.period = ticks,
-        1 => task.deadline = ticks,
+        1 => task.deadlines[if layout == 1 { 0 } else { frame }] = ticks,
         2 => task.lock = ticks,
         3 => task.frame_count = random.below(16) as u32,
         4 => task.frames[frame] = ticks,
@@ -608,7 +780,7 @@ pub fn random_sheet(random: &mut Random) -> Vec<u8> {
     let mut body = random.bytes(length);
     if length >= 2 && !one_in(random, 4) {
         let count = between(random, 1, 3);
-        let header = sheet::packed(&[(4, 1), (2, random.below(3) as u32), (5, count), (5, 0)]);
+        let header = sheet::packed(&[(4, between(random, 1, 2)), (2, random.below(3) as u32), (5, count), (5, 0)]);
         body[..2].copy_from_slice(&header);
     }
     check_word::sealed(&body)

@@ -42,11 +42,12 @@ impl<'a> Equation<'a> {
         (1..=deadline).find(|&t| self.demand(own, higher, t) <= u64::from(t))
     }
 
-    /// What is said of a task below the higher and above the lower ones: its frames have times if its largest has one.
+    /// What is said of a task below the higher and above the lower ones: its frames have times if each has one within its deadline.
     fn answer(&self, higher: &[usize], task: &Task, lower: &[usize]) -> Answer {
         let blocking = blocking(self.set, lower);
-        let response = |frame: u32| self.response(u64::from(blocking) + u64::from(frame), higher, task.deadline);
-        let times = response(task.largest_frame()).and_then(|_| task.frames.iter().map(|&c| response(c)).collect());
+        let own = |frame: usize| u64::from(blocking) + u64::from(task.frames[frame]);
+        let response = |frame: usize| self.response(own(frame), higher, task.deadlines[frame]);
+        let times = (0..task.frames.len()).map(response).collect();
         Answer { blocking, blocker: blocker(self.set, lower), times }
     }
 

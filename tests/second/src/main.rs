@@ -4,7 +4,7 @@ use std::io::{Read, Write};
 use std::process::ExitCode;
 
 const USAGE: &str = "second report < sheet   the report of a sheet
-second sheets DIR       writes the cases A to M as DIR/*.sheet
+second sheets DIR       writes the cases A to O as DIR/*.sheet
 This program is unproved: it is the second reading that the proved code is compared with.";
 
 fn main() -> ExitCode {

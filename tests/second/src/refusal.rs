@@ -30,6 +30,8 @@ pub enum Refusal {
     Script,
     /// Of a script's first frames and entries, counted together.
     Item(usize),
+    /// Some task's deadlines differ, so that version 1 cannot hold the set.
+    Deadlines,
 }
 
 impl Refusal {
@@ -49,6 +51,7 @@ impl Refusal {
             Refusal::Room => 12,
             Refusal::Script => 13,
             Refusal::Item(_) => 14,
+            Refusal::Deadlines => 17,
         }
     }
 

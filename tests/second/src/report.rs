@@ -4,7 +4,7 @@ use crate::refusal::Refusal;
 use crate::sheet;
 use crate::task::Set;
 
-/// What the report program prints for these bytes of standard input; 453 of them are enough to know refusal 1.
+/// What the report program prints for these bytes of standard input; 733 of them are enough to know refusal 1.
 pub fn report(bytes: &[u8]) -> String {
     match sheet::read(bytes) {
         Err(refusal) => format!("refused {}\n", refusal.number()),
@@ -38,12 +38,12 @@ fn first_line(count: usize, verdict: Verdict) -> String {
     }
 }
 
-/// Number, T, D, blocking, then the times or the word `missed` once.
+/// Number, T, the smallest D, blocking, then the times or the word `missed` once.
 fn task_line(set: &Set, analysis: &Analysis, number: usize) -> String {
     let (task, answer) = (&set.tasks[number], &analysis.answers[number]);
     let times = match &answer.times {
         Some(times) => times.iter().map(|t| t.to_string()).collect::<Vec<_>>().join(" "),
         None => "missed".to_string(),
     };
-    format!("{number} {} {} {} {times}\n", task.period, task.deadline, answer.blocking)
+    format!("{number} {} {} {} {times}\n", task.period, task.smallest_deadline(), answer.blocking)
 }

@@ -148,10 +148,10 @@ impl<'a> Player<'a> {
         }
     }
 
-    /// The run has reached `now`: jobs whose deadline that is and that have work left miss.
+    /// The run has reached `now`: jobs whose frame's deadline that is and that have work left miss.
     fn see_misses(&mut self) {
         for job in self.pending.iter().flatten() {
-            if job.release + u64::from(self.set.tasks[job.task].deadline) == self.now {
+            if job.release + u64::from(self.set.tasks[job.task].deadlines[job.frame]) == self.now {
                 self.missed.push(*job);
             }
         }
@@ -169,7 +169,7 @@ pub fn play_worst_run(set: &Set, task: usize, frame: usize) -> Result<Option<u64
         player.release(blocker, set.tasks[blocker].lock)?;
     }
     player.tick(blocker.map_or(0, |b| set.tasks[b].lock))?;
-    let deadline = u64::from(set.tasks[task].deadline);
+    let deadline = u64::from(set.tasks[task].deadlines[frame]);
     while player.now() < 1 + deadline {
         let since = player.now() - 1;
         if since == 0 {

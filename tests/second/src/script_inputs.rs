@@ -1,15 +1,20 @@
 //! Scripts for comparisons: such as keep every rule, and such as are damaged in every way of 13 and 14.
 use crate::check_word;
-use crate::generate::{between, one_in, set_of, shape, Shape};
+use crate::generate::{between, one_in, set_of, shape, tight_set, Shape};
 use crate::random::Random;
 use crate::refusal::Refusal;
 use crate::scripts::{self, Entry, Script, COUNT_WIDTH, FIRST_WIDTH};
 use crate::sheet::{self, CHECK_BYTES};
 use crate::task::{Set, Task, MOST_TICKS};
 
-/// A set whose plays are short: periods up to 40; some with locks as long as they may be.
+/// A set whose plays are short: periods up to 58; some with locks as long as they may be, some with tight deadlines.
 pub fn short_set(random: &mut Random, tasks: usize) -> Set {
     let shape = Shape { tasks, least_period: 2, greatest_period: between(random, 4, 40), ..shape(random) };
+    if one_in(random, 3) {
+        // long enough for some ticks of each task
+        let least_period = 2 * tasks as u32 + 6;
+        return tight_set(random, Shape { least_period, greatest_period: least_period + 20, ..shape });
+    }
     let mut set = set_of(random, shape);
     if one_in(random, 2) {
         set.tasks.iter_mut().filter(|_| one_in(random, 2)).for_each(|task| task.lock = task.largest_frame());

@@ -161,14 +161,15 @@ fn shows(player: &Player, new_stretch: u32) -> u8 {
     number + if player.in_stretch() || new_stretch > 0 { LOCKED } else { 0 }
 }
 
-/// The first frame of a task without a response time, by the definition and whatever its task's slots hold.
+/// The first frame of a task without a response time within its deadline, by the definition and whatever its task's slots hold.
 pub fn first_frame_without(set: &Set, task: usize) -> Option<usize> {
     let order = analysis::order(set);
     let place = order.iter().position(|&i| i == task).expect("no such task");
     let higher: Vec<Higher> = order[..place].iter().map(|&i| Higher::new(&set.tasks[i])).collect();
     let blocking = analysis::blocking(set, &order[place + 1..]);
     let task = &set.tasks[task];
-    task.frames.iter().position(|&c| analysis::response_time(blocking, c, &higher, task.deadline).is_none())
+    let has_none = |frame: &usize| analysis::response_time(blocking, task.frames[*frame], &higher, task.deadlines[*frame]).is_none();
+    (0..task.frames.len()).find(has_none)
 }
 
 /// The worst run of the named task's first frame without a response time; none if the set holds.
@@ -179,7 +180,7 @@ pub fn worst(set: &Set) -> Option<Script> {
     }
 }
 
-/// The worst run of a frame.
+/// The worst run of a frame: up to its own deadline.
 pub fn worst_of(set: &Set, number: usize, frame: usize) -> Script {
     let order = analysis::order(set);
     let place = order.iter().position(|&i| i == number).expect("no such task");
@@ -196,7 +197,7 @@ pub fn worst_of(set: &Set, number: usize, frame: usize) -> Script {
     for &i in higher {
         let task_above = &set.tasks[i];
         let works = task_above.frames.iter().cycle().skip(first_frames[i]);
-        let ticks = (1..1 + task.deadline).step_by(task_above.period as usize);
+        let ticks = (1..1 + task.deadlines[frame]).step_by(task_above.period as usize);
         entries.extend(ticks.zip(works).map(|(tick, &work)| Entry { task: i as u32, tick, work, lock: 0 }));
     }
     entries.sort_by_key(|entry| (entry.tick, entry.task));

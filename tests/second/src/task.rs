@@ -12,9 +12,10 @@ pub const DEADLINE_MONOTONIC: u32 = 2;
 #[derive(Clone, Debug, PartialEq, Eq, Hash)]
 pub struct Task {
     pub period: u32,
-    pub deadline: u32,
     pub lock: u32,
     pub frames: Vec<u32>,
+    /// One for each frame.
+    pub deadlines: Vec<u32>,
 }
 
 #[derive(Clone, Debug, PartialEq, Eq, Hash)]
@@ -28,25 +29,49 @@ pub struct Set {
 #[derive(Clone, Copy, Debug, PartialEq, Eq)]
 pub struct Record {
     pub period: u32,
-    pub deadline: u32,
     pub lock: u32,
     pub frame_count: u32,
     pub frames: [u32; MOST_FRAMES],
+    pub deadlines: [u32; MOST_FRAMES],
 }
 
 impl Task {
+    /// A task with the same deadline for all its frames.
+    pub fn with_one_deadline(period: u32, deadline: u32, lock: u32, frames: &[u32]) -> Self {
+        Task { period, lock, frames: frames.to_vec(), deadlines: vec![deadline; frames.len()] }
+    }
+
+    /// The task with this deadline for all its frames.
+    pub fn due_by(&self, deadline: u32) -> Self {
+        Task::with_one_deadline(self.period, deadline, self.lock, &self.frames)
+    }
+
     pub fn largest_frame(&self) -> u32 {
         self.frames.iter().copied().max().unwrap_or(0)
     }
 
+    /// What the policy and the report take for the task's deadline.
+    pub fn smallest_deadline(&self) -> u32 {
+        self.deadlines.iter().copied().min().unwrap_or(0)
+    }
+
+    pub fn latest_deadline(&self) -> u32 {
+        self.deadlines.iter().copied().max().unwrap_or(0)
+    }
+
+    /// Whether its deadlines are all equal.
+    pub fn has_one_deadline(&self) -> bool {
+        self.deadlines.windows(2).all(|two| two[0] == two[1])
+    }
+
     fn in_range(&self) -> bool {
         let ticks = 1..=MOST_TICKS;
-        let frames = self.frames.iter().all(|c| ticks.contains(c));
-        ticks.contains(&self.period) && ticks.contains(&self.deadline) && self.lock <= MOST_TICKS && frames
+        let all = self.frames.iter().chain(&self.deadlines).all(|n| ticks.contains(n));
+        ticks.contains(&self.period) && self.lock <= MOST_TICKS && all
     }
 
     fn well_formed(&self) -> bool {
-        self.frames.iter().all(|&c| c <= self.deadline) && self.deadline <= self.period
+        self.frames.iter().zip(&self.deadlines).all(|(c, d)| c <= d && *d <= self.period)
     }
 
     /// 9, 10 and 11, in this order; `number` is the task's own.
@@ -62,9 +87,13 @@ impl Task {
 
     /// The record with 0 in the slots that are not in use.
     pub fn record(&self) -> Record {
-        let mut frames = [0; MOST_FRAMES];
-        frames[..self.frames.len()].copy_from_slice(&self.frames);
-        Record { period: self.period, deadline: self.deadline, lock: self.lock, frame_count: self.frames.len() as u32, frames }
+        let eight = |numbers: &[u32]| {
+            let mut slots = [0; MOST_FRAMES];
+            slots[..numbers.len()].copy_from_slice(numbers);
+            slots
+        };
+        let frame_count = self.frames.len() as u32;
+        Record { period: self.period, lock: self.lock, frame_count, frames: eight(&self.frames), deadlines: eight(&self.deadlines) }
     }
 }
 
@@ -72,13 +101,19 @@ impl Set {
     pub fn list(&self) -> Vec<Record> {
         self.tasks.iter().map(Task::record).collect()
     }
+
+    /// Whether each task's deadlines are all equal, so that a sheet of version 1 can hold the set.
+    pub fn has_one_deadline_each(&self) -> bool {
+        self.tasks.iter().all(Task::has_one_deadline)
+    }
 }
 
 impl Record {
     /// The task in the record, if its frame count can be one.
     fn task(&self) -> Option<Task> {
         let count = usize::try_from(self.frame_count).ok().filter(|n| (1..=MOST_FRAMES).contains(n))?;
-        Some(Task { period: self.period, deadline: self.deadline, lock: self.lock, frames: self.frames[..count].to_vec() })
+        let [frames, deadlines] = [self.frames, self.deadlines].map(|slots| slots[..count].to_vec());
+        Some(Task { period: self.period, lock: self.lock, frames, deadlines })
     }
 }
 

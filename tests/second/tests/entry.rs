@@ -1,7 +1,9 @@
-//! The C entry of the workbench: the proved code against the second reading.
-use second::cases::{cases, Expected};
+//! The C entry of the workbench, on sheets of both versions: the proved code against the second reading.
+use second::cases::{cases, cases_in_versions, Expected};
+use second::compared::version_of;
 use second::generate::{self, Shape};
 use second::random::Random;
+use second::sheet::VERSIONS;
 use second::task::{Set, MOST_FRAMES, MOST_TASKS};
 use second::{analysis, bits, proved, sheet};
 use std::collections::{BTreeMap, BTreeSet};
@@ -31,15 +33,19 @@ impl Kind {
         }
     }
 
-    fn all() -> BTreeSet<Kind> {
-        (0..=12).chain([100, 116]).map(Kind::of).collect()
+    /// What can come of a sheet of either version, and with version 0 of any other.
+    fn all() -> BTreeSet<(u32, Kind)> {
+        let known = VERSIONS.iter().flat_map(|&version| (0..=12).chain([100, 116]).map(move |answer| (version, answer)));
+        let all = known.filter(|&(_, answer)| answer != 3).chain([1, 2, 3].map(|answer| (0, answer)));
+        all.map(|(version, answer)| (version, Kind::of(answer))).collect()
     }
 }
 
 /// The comparisons made so far.
 struct Compared {
     random: Random,
-    kinds: BTreeMap<Kind, u64>,
+    /// By the sheet's version, 0 for one that is none.
+    kinds: BTreeMap<(u32, Kind), u64>,
     misses: BTreeSet<u32>,
 }
 
@@ -58,7 +64,7 @@ impl Compared {
         assert_eq!(ours, theirs, "room {room}, sheet {bytes:02x?}");
         let written = GUARD..GUARD + written(bytes, answer);
         assert!(ours[..written.start] == before[..written.start] && ours[written.end..] == before[written.end..]);
-        *self.kinds.entry(Kind::of(answer)).or_insert(0) += 1;
+        *self.kinds.entry((version_of(bytes), Kind::of(answer))).or_insert(0) += 1;
         if answer >= 100 {
             self.misses.insert(answer);
         }
@@ -85,10 +91,12 @@ fn written(bytes: &[u8], answer: u32) -> usize {
 
 /// A set of any kind.
 fn any_set(random: &mut Random) -> Set {
+    let shape = generate::shape(random);
     match random.below(10) {
         0 => generate::edge_set(random),
         1 => generate::tiny_set(random),
-        _ => generate::admitted_set(random),
+        2 | 3 => generate::tight_set(random, shape),
+        _ => generate::set_of(random, shape),
     }
 }
 
@@ -100,22 +108,25 @@ fn admitted_sheets() {
     let (mut sizes, mut loads) = (BTreeSet::new(), BTreeMap::new());
     for round in 0..120_000 {
         let set = if round % 5 == 0 { sized_set(&mut random, round / 5 % MOST_TASKS + 1) } else { any_set(&mut random) };
-        let (bytes, need) = (sheet::write(&set), TASK_BYTES * set.tasks.len());
+        let (bytes, need) = (generate::sheet_of(&mut random, &set), TASK_BYTES * set.tasks.len());
         let room = match random.below(8) {
             0 => need + random.below(80) as usize,
             1 => random.below(need as u64) as usize,
             _ => need,
         };
         compared.compare(&bytes, room);
-        sizes.insert((set.policy, set.tasks.len()));
+        sizes.insert((version_of(&bytes), set.policy, set.tasks.len()));
         *loads.entry(((generate::load(&set) * 10.0) as u32).min(13)).or_insert(0u64) += 1;
     }
     compared.print("admitted sheets");
     println!("admitted sheets by tenths of load, 13 for more: {loads:?}; {} different misses", compared.misses.len());
-    assert_eq!(sizes.len(), 3 * MOST_TASKS);
+    assert_eq!(sizes.len(), 2 * 3 * MOST_TASKS);
     assert!((3..=13).all(|load| loads.contains_key(&load)));
-    let analysed = compared.total() - compared.kinds[&Kind::Refused(12)];
-    assert!(analysed >= 100_000, "{analysed} sets analysed");
+    for version in VERSIONS {
+        let of_version = compared.kinds.iter().filter(|((v, kind), _)| *v == version && *kind != Kind::Refused(12));
+        let analysed: u64 = of_version.map(|(_, count)| count).sum();
+        assert!(analysed >= 30_000, "{analysed} sets analysed");
+    }
 }
 
 fn sized_set(random: &mut Random, tasks: usize) -> Set {
@@ -130,12 +141,13 @@ fn every_kind_of_answer() {
     let mut compared = Compared::new(33);
     for round in 0..160 {
         let set = if round % 2 == 0 { sized_set(&mut random, round / 2 % MOST_TASKS + 1) } else { any_set(&mut random) };
-        for damaged in generate::damaged_sheets(&mut random, &set) {
+        let version = generate::version_for(&mut random, &set);
+        for damaged in generate::damaged_sheets(&mut random, version, &set) {
             let room = random.below(2 * 512) as usize;
             let answer = compared.compare(&damaged.bytes, room);
             assert_eq!(answer, damaged.refusal.number(), "{}: {:02x?}", damaged.way, damaged.bytes);
         }
-        compared.compare(&sheet::write(&set), TASK_BYTES * set.tasks.len());
+        compared.compare(&sheet::write(version, &set), TASK_BYTES * set.tasks.len());
     }
     for _ in 0..30_000 {
         let set = any_set(&mut random);
@@ -144,7 +156,7 @@ fn every_kind_of_answer() {
         compared.compare(&generate::random_sheet(&mut random), room);
     }
     compared.print("sheets of all kinds");
-    assert_eq!(compared.kinds.keys().copied().collect::<BTreeSet<Kind>>(), Kind::all());
+    assert_eq!(compared.kinds.keys().copied().collect::<BTreeSet<(u32, Kind)>>(), Kind::all());
     assert!(compared.total() >= 100_000);
 }
 
@@ -155,7 +167,7 @@ fn every_room() {
     let mut compared = Compared::new(35);
     for round in 0..5 * MOST_TASKS {
         let set = sized_set(&mut random, round % MOST_TASKS + 1);
-        let (bytes, need) = (sheet::write(&set), TASK_BYTES * set.tasks.len());
+        let (bytes, need) = (generate::sheet_of(&mut random, &set), TASK_BYTES * set.tasks.len());
         for room in generate::rooms(need) {
             let answer = compared.compare(&bytes, room);
             assert_eq!(answer == 12, room < need, "room {room}, sheet {bytes:02x?}");
@@ -168,10 +180,12 @@ fn every_room() {
 fn every_changed_bit_is_refused() {
     let mut random = Random::new(36);
     let mut compared = Compared::new(37);
-    let mut good: Vec<Vec<u8>> = (1..=MOST_TASKS).map(|tasks| sheet::write(&sized_set(&mut random, tasks))).collect();
-    good.extend(cases().iter().map(|case| sheet::write(&case.set)));
-    good.push(sheet::write(&generate::costly_sets()[0]));
-    for bytes in good {
+    let mut sets: Vec<Set> = (1..=MOST_TASKS).map(|tasks| sized_set(&mut random, tasks)).collect();
+    sets.extend(cases().into_iter().map(|case| case.set));
+    sets.push(generate::costly_sets()[0].clone());
+    let of_one = sets.iter().map(|set| sheet::write(1, &generate::with_one_deadline_each(set)));
+    let of_two = sets.iter().map(|set| sheet::write(2, set));
+    for bytes in of_one.chain(of_two) {
         for at in 0..8 * bytes.len() {
             assert_eq!(compared.compare(&bits::inverted(&bytes, at), 512), 2, "bit {at} of {bytes:02x?}");
         }
@@ -183,17 +197,17 @@ fn every_changed_bit_is_refused() {
 fn costly_sheets() {
     let mut compared = Compared::new(38);
     for set in generate::costly_sets() {
-        compared.compare(&sheet::write(&set), TASK_BYTES * set.tasks.len());
+        compared.compare(&sheet::write(2, &set), TASK_BYTES * set.tasks.len());
     }
     compared.print("costly sheets");
 }
 
-/// What the scope says of cases A to M, not what the second program says.
+/// What the scope says of cases A to M, and what N and O come to by hand, not what the second program says.
 #[test]
-fn cases_a_to_m() {
-    for case in cases() {
+fn cases_a_to_o() {
+    for (version, case) in cases_in_versions() {
         let mut buffer = [0xEE; TASK_BYTES * 3 + 1];
-        let answer = proved::check_sheet(&sheet::write(&case.set), &mut buffer);
+        let answer = proved::check_sheet(&sheet::write(version, &case.set), &mut buffer);
         let (number, times) = match case.expected {
             Expected::Refused(refusal) => (refusal.number(), vec![]),
             Expected::Holds(times) => (0, times),
@@ -204,5 +218,5 @@ fn cases_a_to_m() {
         let expected: Vec<u8> = written.chain([0xEE; TASK_BYTES * 3 + 1]).take(buffer.len()).collect();
         assert_eq!((answer, buffer.to_vec()), (number, expected), "{}", case.name);
     }
-    println!("cases A to M by the entry: {} compared", cases().len());
+    println!("cases A to O by the entry, in each version: {} compared", cases_in_versions().len());
 }

@@ -4,7 +4,8 @@ use second::generate::{self, Draft};
 use second::jobs::Equation;
 use second::random::Random;
 use second::refusal::{NoStart, Refusal};
-use second::task::{admit_list, start_frame, Record, Set, MOST_FRAMES, MOST_TASKS};
+use second::sheet::VERSIONS;
+use second::task::{admit_list, start_frame, Record, Set, Task, MOST_FRAMES, MOST_TASKS};
 use second::{bits, check_word, report, sheet};
 use std::collections::{BTreeMap, BTreeSet};
 
@@ -17,15 +18,16 @@ fn sets(seed: u64, count: usize) -> impl Iterator<Item = Set> {
 fn damaged_sheets_are_refused_as_meant() {
     let mut random = Random::new(10);
     let (mut by_number, mut ways) = (BTreeMap::new(), BTreeSet::new());
-    for set in sets(11, 120) {
-        for damaged in generate::damaged_sheets(&mut random, &set) {
+    for set in sets(11, 160) {
+        let version = generate::version_for(&mut random, &set);
+        for damaged in generate::damaged_sheets(&mut random, version, &set) {
             assert_eq!(sheet::read(&damaged.bytes), Err(damaged.refusal), "{}: {:02x?}", damaged.way, damaged.bytes);
-            *by_number.entry(damaged.refusal.number()).or_insert(0u64) += 1;
-            ways.insert(damaged.way);
+            *by_number.entry((version, damaged.refusal.number())).or_insert(0u64) += 1;
+            ways.insert((version, damaged.way));
         }
     }
-    println!("damaged sheets by refusal: {by_number:?}, {} ways", ways.len());
-    assert!((1..=11).all(|n| by_number.contains_key(&n)));
+    println!("damaged sheets by version and refusal: {by_number:?}, {} ways", ways.len());
+    assert!(VERSIONS.iter().all(|&version| (1..=11).all(|n| by_number.contains_key(&(version, n)))));
 }
 
 #[test]
@@ -98,14 +100,20 @@ fn order_of_a_sheet() {
         greatest_period: 100,
         ..generate::shape(&mut random)
     };
-    let draft = Draft::of(&generate::set_of(&mut random, shape));
+    let set = generate::set_of(&mut random, shape);
+    VERSIONS.iter().for_each(|&version| order_of_a_draft(&Draft::of(version, &set)));
+}
+
+/// Three tasks of one frame.
+fn order_of_a_draft(draft: &Draft) {
     let number = |change: &dyn Fn(&mut Draft)| {
         let mut changed = draft.clone();
         change(&mut changed);
         sheet::read(&changed.bytes()).map_or_else(|r| (r.number(), r.task()), |_| (0, 0))
     };
     assert_eq!(number(&|_| {}), (0, 0));
-    assert_eq!(number(&|d| (d.version, d.policy) = (2, 3)), (3, 0));
+    assert_eq!(number(&|d| (d.version, d.policy) = (3, 3)), (3, 0));
+    assert_eq!(number(&|d| (d.version, d.policy) = (0, 3)), (3, 0));
     assert_eq!(number(&|d| (d.policy, d.spare) = (3, 1)), (4, 0));
     assert_eq!(number(&|d| (d.spare, d.count) = (1, 0)), (5, 0));
     assert_eq!(number(&|d| (d.count, d.tasks[0].frame_count) = (17, 9)), (6, 0));
@@ -122,16 +130,38 @@ fn order_of_a_sheet() {
 fn round_trips() {
     let (mut sizes, mut lengths) = (BTreeSet::new(), BTreeSet::new());
     for set in sets(15, 2_000) {
-        let bytes = sheet::write(&set);
-        assert_eq!(bytes.len(), sheet::length(&set));
-        assert_eq!(Draft::of(&set).bytes(), bytes);
-        sizes.insert(set.tasks.len());
-        lengths.insert(bytes.len());
-        assert_eq!(sheet::read(&bytes), Ok(set));
+        for version in VERSIONS.into_iter().filter(|&version| version == 2 || set.has_one_deadline_each()) {
+            let bytes = sheet::write(version, &set);
+            assert_eq!(bytes.len(), sheet::length(version, &set));
+            assert_eq!(Draft::of(version, &set).bytes(), bytes);
+            sizes.insert((version, set.tasks.len()));
+            lengths.insert(bytes.len());
+            assert_eq!(sheet::read_versions(&VERSIONS, &bytes), Ok((version, set.clone())));
+        }
     }
-    assert_eq!((sheet::LEAST, sheet::GREATEST), (15, 452));
-    assert_eq!(sizes.len(), MOST_TASKS);
+    assert_eq!((sheet::LEAST, sheet::GREATEST), (15, 732));
+    assert_eq!(sizes.len(), 2 * MOST_TASKS);
     println!("round trips: sheets of {} to {} bytes", lengths.first().unwrap(), lengths.last().unwrap());
+}
+
+/// There and back gives the same bytes, and both sheets the same set; what version 1 cannot hold has no way back.
+#[test]
+fn conversions_there_and_back() {
+    let (mut converted, mut apart) = (0u64, 0u64);
+    for set in sets(24, 4_000) {
+        let two = sheet::write(2, &set);
+        if !set.has_one_deadline_each() {
+            assert_eq!(sheet::convert(1, &two), Err(Refusal::Deadlines));
+            apart += 1;
+            continue;
+        }
+        let one = sheet::write(1, &set);
+        assert_eq!((sheet::convert(2, &one).as_ref(), sheet::convert(1, &two).as_ref()), (Ok(&two), Ok(&one)));
+        assert_eq!((sheet::read(&one), sheet::read(&two)), (Ok(set.clone()), Ok(set)));
+        converted += 1;
+    }
+    println!("there and back: {converted} sets, {apart} that version 1 cannot hold");
+    assert!(converted > 1_000 && apart > 1_000);
 }
 
 /// What changes a sheet but gets through must be a sheet with the same bytes when written again.
@@ -141,9 +171,9 @@ fn muddled_and_random_sheets() {
     let mut answers = BTreeMap::new();
     for set in sets(17, 20_000) {
         for bytes in [generate::muddled_sheet(&mut random, &set), generate::random_sheet(&mut random)] {
-            let answer = sheet::read(&bytes);
-            if let Ok(set) = &answer {
-                assert_eq!(sheet::write(set), bytes);
+            let answer = sheet::read_versions(&VERSIONS, &bytes);
+            if let Ok((version, set)) = &answer {
+                assert_eq!(sheet::write(*version, set), bytes);
             }
             *answers.entry(answer.map_or_else(Refusal::number, |_| 0)).or_insert(0u64) += 1;
         }
@@ -155,29 +185,40 @@ fn muddled_and_random_sheets() {
 #[test]
 fn changed_bits_are_refused() {
     for set in sets(18, 20) {
-        let bytes = sheet::write(&set);
-        for at in 0..8 * bytes.len() {
-            assert_eq!(sheet::read(&bits::inverted(&bytes, at)), Err(Refusal::CheckWord));
+        let sheets = [sheet::write(1, &generate::with_one_deadline_each(&set)), sheet::write(2, &set)];
+        for bytes in sheets {
+            assert!(check_word::is_sealed(&bytes));
+            for at in 0..8 * bytes.len() {
+                assert_eq!(sheet::read(&bits::inverted(&bytes, at)), Err(Refusal::CheckWord));
+            }
         }
     }
-    assert!(check_word::is_sealed(&sheet::write(&sets(18, 1).next().unwrap())));
 }
 
 /// Every room from none to one past the need, for all lent memory.
 #[test]
 fn lent_room() {
-    let blank = Record { period: 1, deadline: 2, lock: 3, frame_count: 4, frames: [5; 8] };
+    let mut random = Random::new(25);
+    let blank = Record { period: 1, lock: 3, frame_count: 4, frames: [5; 8], deadlines: [6; 8] };
     for set in sets(19, 25) {
-        let (bytes, n) = (sheet::write(&set), set.tasks.len());
+        let version = generate::version_for(&mut random, &set);
+        let (bytes, n) = (sheet::write(version, &set), set.tasks.len());
         for room in generate::rooms(bytes.len()) {
-            let mut buffer = vec![0xA5; room];
-            let fits = room >= bytes.len();
-            assert_eq!(sheet::write_into(set.policy, &set.list(), &mut buffer), fits.then_some(bytes.len()).ok_or(Refusal::Room));
+            let (mut buffer, fits) = (vec![0xA5; room], room >= bytes.len());
+            assert_eq!(sheet::write_into(version, set.policy, &set.list(), &mut buffer), fits.then_some(bytes.len()).ok_or(Refusal::Room));
             assert_eq!(buffer, filled(room, fits, &bytes, 0xA5));
+        }
+        if set.has_one_deadline_each() {
+            let other = sheet::write(3 - version, &set);
+            for room in generate::rooms(other.len()) {
+                let (mut buffer, fits) = (vec![0xA5; room], room >= other.len());
+                assert_eq!(sheet::convert_into(3 - version, &bytes, &mut buffer), fits.then_some(other.len()).ok_or(Refusal::Room));
+                assert_eq!(buffer, filled(room, fits, &other, 0xA5));
+            }
         }
         for room in generate::rooms(n) {
             let mut list = vec![blank; room];
-            assert_eq!(sheet::read_into(&bytes, &mut list), (room >= n).then_some((set.policy, n)).ok_or(Refusal::Room));
+            assert_eq!(sheet::read_into(&bytes, &mut list), (room >= n).then_some((version, set.policy, n)).ok_or(Refusal::Room));
             assert_eq!(list, filled(room, room >= n, &set.list(), blank));
         }
         let analysis = analyse(&set);
@@ -205,9 +246,9 @@ fn filled<T: Clone>(room: usize, fits: bool, content: &[T], before: T) -> Vec<T>
 fn response_times_are_least_solutions() {
     let mut random = Random::new(20);
     let (mut times, mut missed) = (0u64, 0u64);
-    for _ in 0..1_500 {
+    for round in 0..1_500 {
         let shape = generate::Shape { least_period: 4, greatest_period: 200, ..generate::shape(&mut random) };
-        let set = generate::set_of(&mut random, shape);
+        let set = if round % 3 == 0 { generate::tight_set(&mut random, shape) } else { generate::set_of(&mut random, shape) };
         let analysis = analyse(&set);
         assert_eq!(analysis, Equation::of(&set).analysis(), "{set:?}");
         for answer in &analysis.answers {
@@ -238,10 +279,53 @@ fn admitted_sets_get_every_verdict() {
     assert!(verdicts.len() == 3 && verdicts.values().all(|&n| n > 1_000));
 }
 
+/// What tasks may be ordered by.
+type Key = fn(&Task) -> u32;
+
+/// The verdict and the times of a set whose tasks stand in the order of this key.
+fn ordered_by(set: &Set, key: Key) -> (Verdict, Vec<u32>) {
+    let mut order: Vec<usize> = (0..set.tasks.len()).collect();
+    order.sort_by_key(|&i| key(&set.tasks[i]));
+    let listed = analyse(&Set { policy: 0, tasks: order.iter().map(|&i| set.tasks[i].clone()).collect() });
+    let number = |place: usize| order[place];
+    let verdict = match listed.verdict {
+        Verdict::Missed { task, blocker } => Verdict::Missed { task: number(task), blocker: blocker.map(number) },
+        Verdict::Holds => Verdict::Holds,
+    };
+    let slots = listed.slots();
+    let mut times = slots.clone();
+    for (place, eight) in slots.chunks(MOST_FRAMES).enumerate() {
+        times[MOST_FRAMES * number(place)..][..MOST_FRAMES].copy_from_slice(eight);
+    }
+    (verdict, times)
+}
+
+/// Sets that are compared elsewhere would tell a wrong reading of deadlines by frame, or a wrong order under policy 2.
+#[test]
+fn wrong_readings_would_be_told() {
+    let orders: [(&str, Key); 2] =
+        [("ordered by the first deadline", |task| task.deadlines[0]), ("ordered by the latest deadline", Task::latest_deadline)];
+    let mut told = BTreeMap::new();
+    for set in generate::sets_of_every_size(51, 10_000) {
+        let analysis = analyse(&set);
+        let right = (analysis.verdict, analysis.slots());
+        let mut count = |name, answer| *told.entry(name).or_insert(0u64) += u64::from(answer != right);
+        if set.policy == 2 {
+            assert_eq!(ordered_by(&set, Task::smallest_deadline), right);
+            orders.iter().for_each(|&(name, key)| count(name, ordered_by(&set, key)));
+        } else {
+            let answer = |reading| analyse(&generate::read_as(&set, reading));
+            generate::WRONG_READINGS.iter().for_each(|&(name, reading)| count(name, (answer(reading).verdict, answer(reading).slots())));
+        }
+    }
+    println!("wrong readings of deadlines told by sets: {told:?}");
+    assert!(told.len() == 7 && told.values().all(|&count| count >= 100));
+}
+
 #[test]
 fn costly_sets_end() {
     for set in generate::costly_sets() {
-        assert_eq!(sheet::read(&sheet::write(&set)).as_ref(), Ok(&set));
+        assert_eq!(sheet::read(&sheet::write(2, &set)).as_ref(), Ok(&set));
         let began = std::time::Instant::now();
         let analysis = analyse(&set);
         println!("costly set: {:?} after {} ms", analysis.verdict, began.elapsed().as_millis());
@@ -252,8 +336,9 @@ fn costly_sets_end() {
 /// A report's lines say what the analysis says.
 #[test]
 fn reports_have_a_line_for_each_task() {
+    let mut random = Random::new(26);
     for set in sets(22, 500) {
-        let text = report::report(&sheet::write(&set));
+        let text = report::report(&generate::sheet_of(&mut random, &set));
         let lines: Vec<&str> = text.lines().collect();
         assert!(text.ends_with('\n') && lines.len() == 1 + set.tasks.len());
         let analysis = analyse(&set);
@@ -261,6 +346,7 @@ fn reports_have_a_line_for_each_task() {
         for (line, &task) in lines[1..].iter().zip(&analysis.order) {
             let words: Vec<&str> = line.split(' ').collect();
             assert_eq!(words[0], task.to_string());
+            assert_eq!(words[2].parse(), Ok(*set.tasks[task].deadlines.iter().min().unwrap()));
             assert_eq!(words.len(), 4 + analysis.answers[task].times.as_ref().map_or(1, Vec::len));
         }
     }

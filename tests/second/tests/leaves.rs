@@ -88,7 +88,7 @@ fn check_words_agree() {
 fn every_changed_bit_is_seen() {
     let mut random = Random::new(4);
     let mut compared = 0u64;
-    for len in [0, 1, 13, 14, 64, 100, 450] {
+    for len in [0, 1, 13, 14, 64, 100, 450, 730] {
         let sealed = check_word::sealed(&random.bytes(len));
         for at in 0..8 * sealed.len() {
             assert!(!proved::is_sealed(&bits::inverted(&sealed, at)), "bit {at} of {} bytes", sealed.len());
@@ -116,7 +116,7 @@ fn every_burst_is_seen() {
             burst(&least, at, pattern);
         }
     }
-    let greatest = check_word::sealed(&random.bytes(450));
+    let greatest = check_word::sealed(&random.bytes(730));
     for at in 0..=8 * greatest.len() - 16 {
         for _ in 0..40 {
             burst(&greatest, at, random.below(0xFFFF) as u32 + 1);

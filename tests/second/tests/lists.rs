@@ -1,7 +1,9 @@
-//! The C entries for lent lists of task records: the proved code against the second reading.
-use second::compared::{no_room, verdict, Compared};
+//! The C entries for lent lists of task records, read from and written to sheets of both versions: the proved code against the second reading.
+use second::compared::{no_room, verdict, Compared, OF_LISTS, OF_SHEETS, OF_WRITTEN};
 use second::generate;
 use second::random::Random;
+use second::refusal::Refusal;
+use second::sheet::VERSIONS;
 use second::task::{Record, MOST_FRAMES, MOST_TASKS};
 use second::{answers, sheet};
 use std::collections::BTreeMap;
@@ -12,11 +14,12 @@ fn sheets_are_read_alike() {
     let mut random = Random::new(40);
     let mut compared = Compared::new(41);
     for set in generate::sets_of_every_size(42, 160) {
-        let (bytes, n) = (sheet::write(&set), set.tasks.len());
+        let version = generate::version_for(&mut random, &set);
+        let (bytes, n) = (sheet::write(version, &set), set.tasks.len());
         for room in generate::rooms(n) {
             assert_eq!(no_room(compared.read_list(&bytes, room)), room < n);
         }
-        for damaged in generate::damaged_sheets(&mut random, &set) {
+        for damaged in generate::damaged_sheets(&mut random, version, &set) {
             let room = random.below(MOST_TASKS as u64 + 2) as usize;
             let answer = compared.read_list(&damaged.bytes, room);
             assert_eq!(answer, answers::refused(damaged.refusal), "{}", damaged.way);
@@ -24,15 +27,12 @@ fn sheets_are_read_alike() {
     }
     for set in generate::sets_of_every_size(43, 20_000) {
         let need = generate::likely_room(&mut random, set.tasks.len());
-        compared.read_list(&sheet::write(&set), need);
+        compared.read_list(&generate::sheet_of(&mut random, &set), need);
         compared.read_list(&generate::muddled_sheet(&mut random, &set), MOST_TASKS);
         compared.read_list(&generate::random_sheet(&mut random), need);
     }
-    compared.finish("sheets read into lists", &[0, 1, 2, 3, 4, 5, 6, 7, 8, 9, 10, 11, 12]);
+    compared.finish("sheets read into lists", &OF_SHEETS);
 }
-
-/// Refusals of a list.
-const OF_LISTS: [u64; 8] = [0, 4, 6, 7, 9, 10, 11, 12];
 
 #[test]
 fn lists_are_written_alike() {
@@ -40,24 +40,35 @@ fn lists_are_written_alike() {
     let mut compared = Compared::new(45);
     for set in generate::sets_of_every_size(46, 120) {
         let list = generate::littered(&mut random, set.list());
-        let length = sheet::length(&set);
-        for room in generate::rooms(length) {
-            assert_eq!(no_room(compared.write_list(set.policy, &list, room)), room < length);
+        for version in VERSIONS {
+            let (length, held) = (sheet::length(version, &set), version == 2 || set.has_one_deadline_each());
+            for room in generate::rooms(length) {
+                let answer = compared.write_list(version, set.policy, &list, room);
+                assert_eq!((answer == answers::refused(Refusal::Deadlines), no_room(answer)), (!held, held && room < length));
+            }
         }
         for damaged in generate::damaged_lists(&mut random, &set) {
             let list = generate::littered(&mut random, damaged.list);
-            let room = random.below(460) as usize;
-            let answer = compared.write_list(damaged.policy, &list, room);
-            assert_eq!(answer, answers::refused(damaged.refusal), "{}", damaged.way);
+            let room = random.below(sheet::GREATEST as u64 + 8) as usize;
+            for version in VERSIONS {
+                let answer = compared.write_list(version, damaged.policy, &list, room);
+                assert_eq!(answer, answers::refused(damaged.refusal), "{}", damaged.way);
+            }
+            let version = generate::any_version(&mut random);
+            compared.write_list(version, damaged.policy, &list, room);
+        }
+        for version in generate::NO_VERSIONS {
+            assert_eq!(compared.write_list(version, set.policy, &list, sheet::GREATEST), 3);
         }
     }
     for set in generate::sets_of_every_size(47, 30_000) {
         let list = generate::littered(&mut random, set.list());
-        let room = generate::likely_room(&mut random, sheet::length(&set));
-        compared.write_list(set.policy, &list, room);
-        compared.write_list(any_policy(&mut random), &muddled(&mut random, list), room);
+        let version = generate::any_version(&mut random);
+        let room = generate::likely_room(&mut random, sheet::length(version, &set));
+        compared.write_list(version, set.policy, &list, room);
+        compared.write_list(version, any_policy(&mut random), &muddled(&mut random, list), room);
     }
-    compared.finish("lists written to sheets", &OF_LISTS);
+    compared.finish("lists written to sheets", &OF_WRITTEN);
 }
 
 #[test]
@@ -106,15 +117,16 @@ fn any_policy(random: &mut Random) -> u32 {
 fn muddled(random: &mut Random, mut list: Vec<Record>) -> Vec<Record> {
     for _ in 0..=random.below(3) {
         let number = random.below(list.len() as u64) as usize;
-        let near = [0, 1, list[number].period, list[number].deadline, 1_048_575, 1_048_576, random.next() as u32];
-        let value = near[random.below(7) as usize];
         let record = &mut list[number];
+        let slot = random.below(8) as usize;
+        let near = [0, 1, record.period, record.deadlines[slot], record.frames[slot], 1_048_575, 1_048_576, random.next() as u32];
+        let value = near[random.below(8) as usize];
         match random.below(5) {
             0 => record.period = value,
-            1 => record.deadline = value,
+            1 => record.deadlines[slot] = value,
             2 => record.lock = value,
             3 => record.frame_count = random.below(11) as u32,
-            _ => record.frames[random.below(8) as usize] = value,
+            _ => record.frames[slot] = value,
         }
     }
     list

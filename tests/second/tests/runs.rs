@@ -1,21 +1,29 @@
-//! The analysis against runs: every run of tiny sets, the worst run of each frame, and random runs.
+//! The analysis against runs: every run of tiny sets, with one deadline for a task and with one for each frame, the worst run of each frame, and random runs.
 use second::all_runs::search;
 use second::analysis::{analyse, Verdict};
-use second::cases::cases;
+use second::cases::cases_in_versions;
 use second::generate;
 use second::random::Random;
 use second::runs::{play_worst_run, Breach, Player};
 use second::task::{Set, Task};
 
 /// How many tiny sets are searched.
-const TINY_SETS: usize = 1_500;
+const TINY_SETS: usize = 10_000;
 
 #[derive(Debug, Default)]
 struct Tally {
     times: usize,
     times_with_blocking: usize,
     times_below_several_frames: usize,
+    /// Of tasks whose deadlines differ.
+    times_by_own_deadlines: usize,
+    /// Of frames beside one of the same time with another deadline.
+    times_of_equal_frames: usize,
     tasks_that_miss: usize,
+    /// Tasks that would pass if each frame had the largest frame's deadline.
+    misses_by_own_deadlines: usize,
+    /// Tasks with a frame that is in time and one of the same time that is not.
+    misses_by_one_of_equal_frames: usize,
     sets_that_hold: usize,
     sets_with_no_run_left_out: usize,
     states: usize,
@@ -34,14 +42,41 @@ fn compare_every_run(set: &Set, tally: &mut Tally) {
                 tally.times += times.len();
                 tally.times_with_blocking += if answer.blocking > 0 { times.len() } else { 0 };
                 tally.times_below_several_frames += if several { times.len() } else { 0 };
+                tally.times_by_own_deadlines += if set.tasks[task].has_one_deadline() { 0 } else { times.len() };
+                tally.times_of_equal_frames += equal_frames(&set.tasks[task]).len();
             }
-            None => tally.tasks_that_miss += 1,
+            None => {
+                tally.tasks_that_miss += 1;
+                count_miss(set, task, tally);
+            }
         }
         several |= set.tasks[task].frames.len() > 1;
     }
     tally.sets_that_hold += usize::from(analysis.verdict == Verdict::Holds);
     tally.sets_with_no_run_left_out += usize::from(found.whole);
     tally.states += found.states;
+}
+
+/// The frames beside which there is one of the same time with another deadline.
+fn equal_frames(task: &Task) -> Vec<usize> {
+    let all = 0..task.frames.len();
+    let apart = |k: usize, j: usize| task.frames[k] == task.frames[j] && task.deadlines[k] != task.deadlines[j];
+    all.clone().filter(|&k| all.clone().any(|j| apart(k, j))).collect()
+}
+
+fn count_miss(set: &Set, number: usize, tally: &mut Tally) {
+    let task = &set.tasks[number];
+    let largest = (0..task.frames.len()).find(|&k| task.frames[k] == task.largest_frame()).unwrap();
+    let mut relaxed = set.clone();
+    relaxed.tasks[number] = task.due_by(task.deadlines[largest]);
+    // where the order stays
+    if set.policy != 2 {
+        tally.misses_by_own_deadlines += usize::from(analyse(&relaxed).answers[number].times.is_some());
+    }
+    let in_time = |&k: &usize| play_worst_run(set, number, k).unwrap().is_some();
+    let (early, late): (Vec<usize>, Vec<usize>) = equal_frames(task).into_iter().partition(in_time);
+    let beside = |k: usize| late.iter().any(|&j| task.frames[j] == task.frames[k]);
+    tally.misses_by_one_of_equal_frames += usize::from(early.into_iter().any(beside));
 }
 
 #[test]
@@ -54,6 +89,8 @@ fn every_run_of_tiny_sets() {
     println!("every run of {TINY_SETS} tiny sets: {tally:?}");
     assert!(tally.times > 1_000 && tally.times_with_blocking > 100 && tally.times_below_several_frames > 100);
     assert!(tally.tasks_that_miss > 100 && tally.sets_that_hold > 100 && tally.sets_with_no_run_left_out > 300);
+    assert!(tally.times_by_own_deadlines > 5_000 && tally.times_of_equal_frames > 3_000);
+    assert!(tally.misses_by_own_deadlines > 300 && tally.misses_by_one_of_equal_frames > 500);
 }
 
 /// The worst run of each frame takes its response time to the tick, or misses.
@@ -77,13 +114,17 @@ fn compare_worst_runs(set: &Set) -> (u64, u64) {
 }
 
 fn small_set(random: &mut Random) -> Set {
-    let shape = generate::shape(random);
-    generate::set_of(random, generate::Shape { least_period: 3, greatest_period: 150, ..shape })
+    let shape = generate::Shape { least_period: 3, greatest_period: 150, ..generate::shape(random) };
+    if generate::one_in(random, 3) {
+        generate::tight_set(random, shape)
+    } else {
+        generate::set_of(random, shape)
+    }
 }
 
 #[test]
 fn worst_runs_take_the_written_times() {
-    for case in cases().iter().filter(|case| case.name != "i") {
+    for (_, case) in cases_in_versions().iter().filter(|(version, case)| *version == 2 && case.name != "i") {
         compare_worst_runs(&case.set);
     }
     let mut random = Random::new(31);
@@ -139,7 +180,7 @@ fn random_runs_stay_within_the_written_times() {
 
 #[test]
 fn the_player_keeps_the_rules() {
-    let task = |period, lock, frames: &[u32]| Task { period, deadline: period, lock, frames: frames.to_vec() };
+    let task = |period, lock, frames: &[u32]| Task::with_one_deadline(period, period, lock, frames);
     let set = Set { policy: 0, tasks: vec![task(4, 0, &[2, 1]), task(9, 2, &[3])] };
     let mut player = Player::new(&set, vec![1, 0]);
     assert_eq!(player.release(0, 2), Err(Breach::WorkAboveFrame));

@@ -5,6 +5,7 @@ use second::random::Random;
 use second::refusal::Refusal;
 use second::runs::{play_worst_run, Complete};
 use second::scripts::{self, Entry, Play, Script, IDLE, LOCKED};
+use second::sheet::VERSIONS;
 use second::task::{Set, Task, MOST_TASKS, MOST_TICKS};
 use second::{answers, bits, check_word, generate, script_inputs, sheet};
 use std::collections::{BTreeMap, BTreeSet};
@@ -19,7 +20,12 @@ fn case(name: &str) -> Set {
 }
 
 fn task(period: u32, deadline: u32, lock: u32, frames: &[u32]) -> Task {
-    Task { period, deadline, lock, frames: frames.to_vec() }
+    Task::with_one_deadline(period, deadline, lock, frames)
+}
+
+/// The set's sheet in each version that can hold it.
+fn sheets(set: &Set) -> impl Iterator<Item = Vec<u8>> + '_ {
+    VERSIONS.into_iter().filter(|&version| version == 2 || set.has_one_deadline_each()).map(|version| sheet::write(version, set))
 }
 
 /// Entries as task, tick, work, lock.
@@ -30,23 +36,31 @@ fn script(first_frames: &[u32], entries: &[[u32; 4]]) -> Script {
 
 /// The play by the C faces' doubles: tick, task and what the ticks show.
 fn played(set: &Set, script: &Script) -> (u64, u64, Vec<u8>) {
-    let (sheet, bytes) = (sheet::write(set), scripts::write(script));
-    let play = scripts::play_sheet(&sheet, &bytes).unwrap();
-    look_again(set, script, &play, &mut Tally::default());
-    let answer = answers::play(&sheet, &bytes);
-    let mut ticks = vec![0xEE; play.shown.len() + 2];
-    assert_eq!(answers::trace(&sheet, &bytes, &mut ticks), answer);
-    assert_eq!(ticks.split_off(play.shown.len()), [0xEE, 0xEE]);
-    assert_eq!((answer & 0xFF, answer >> 48), (0, 0));
-    (answer >> 8 & 0xFFFF_FFFF, answer >> 40, ticks)
+    let bytes = scripts::write(script);
+    let by_sheet = |sheet: Vec<u8>| {
+        let play = scripts::play_sheet(&sheet, &bytes).unwrap();
+        look_again(set, script, &play, &mut Tally::default());
+        let answer = answers::play(&sheet, &bytes);
+        let mut ticks = vec![0xEE; play.shown.len() + 2];
+        assert_eq!(answers::trace(&sheet, &bytes, &mut ticks), answer);
+        assert_eq!(ticks.split_off(play.shown.len()), [0xEE, 0xEE]);
+        assert_eq!((answer & 0xFF, answer >> 48), (0, 0));
+        (answer >> 8 & 0xFFFF_FFFF, answer >> 40, ticks)
+    };
+    let mut all: Vec<_> = sheets(set).map(by_sheet).collect();
+    all.dedup();
+    assert_eq!(all.len(), 1);
+    all.remove(0)
 }
 
 /// The number of the refusal and its detail; the lent bytes stay.
 fn refused(set: &Set, script: &Script) -> (u64, u64) {
-    let (sheet, bytes) = (sheet::write(set), scripts::write(script));
-    let answer = answers::play(&sheet, &bytes);
-    let mut ticks = [0xEE; 64];
-    assert_eq!((answers::trace(&sheet, &bytes, &mut ticks), ticks), (answer, [0xEE; 64]));
+    let bytes = scripts::write(script);
+    let answer = answers::play(&sheet::write(2, set), &bytes);
+    for sheet in sheets(set) {
+        let mut ticks = [0xEE; 64];
+        assert_eq!((answers::trace(&sheet, &bytes, &mut ticks), ticks), (answer, [0xEE; 64]));
+    }
     (answer & 0xFF, answer >> 8)
 }
 
@@ -102,6 +116,23 @@ fn the_first_frame_without_a_response_time() {
     assert_eq!(played(&set, &worst), (10, 1, vec![34, 34, 0, 0, 0, 0, 0, 1, 1, 0]));
 }
 
+/// Frames 3 and 1 with the deadlines 6 and 2, below T 8 C 2: a job of the short frame is due sooner, and its worst run is as short.
+#[test]
+fn a_deadline_for_each_frame() {
+    let low = Task { period: 6, lock: 0, frames: vec![3, 1], deadlines: vec![6, 2] };
+    let set = Set { policy: 0, tasks: vec![task(8, 8, 0, &[2]), low] };
+    let both = [[0, 0, 2, 0], [1, 0, 3, 0], [0, 8, 2, 0], [1, 8, 1, 0]];
+    assert_eq!(played(&set, &script(&[0, 0], &both)), (10, 1, vec![0, 0, 1, 1, 1, 16, 16, 16, 0, 0]));
+    assert_eq!(played(&set, &script(&[0, 1], &[[0, 0, 2, 0], [1, 0, 1, 0]])), (2, 1, vec![0, 0]));
+    // a job without work takes its frame and its deadline with it
+    let turned = [[1, 0, 0, 0], [0, 6, 2, 0], [1, 6, 3, 0]];
+    assert_eq!(played(&set, &script(&[0, 1], &turned)), (11, NONE, vec![16, 16, 16, 16, 16, 16, 0, 0, 1, 1, 1]));
+    assert_eq!(analyse(&set).verdict, Verdict::Missed { task: 1, blocker: None });
+    let worst = scripts::worst(&set).unwrap();
+    assert_eq!(worst, script(&[0, 1], &[[0, 1, 2, 0], [1, 1, 1, 0]]));
+    assert_eq!(played(&set, &worst), (3, 1, vec![16, 0, 0]));
+}
+
 /// Each unlocked pick starts a stretch anew; the last one of each ends early. A lock of 1 starts none.
 #[test]
 fn two_tasks_with_locks() {
@@ -136,7 +167,7 @@ fn jobs_without_work() {
 #[test]
 fn no_entries() {
     assert_eq!(played(&case("f"), &script(&[0, 0], &[])), (0, NONE, vec![]));
-    assert_eq!(answers::play(&sheet::write(&case("f")), &scripts::write(&script(&[0, 0], &[]))), 16 << 40);
+    assert_eq!(answers::play(&sheet::write(1, &case("f")), &scripts::write(&script(&[0, 0], &[]))), 16 << 40);
 }
 
 /// Tasks 0 and 1 both reach their deadline at 4; task 1 is the higher, task 0 has the lower number.
@@ -220,7 +251,7 @@ fn each_14() {
 
 #[test]
 fn each_13_and_the_sheet_first() {
-    let (sheet, good) = (sheet::write(&case("f")), scripts::write(&script(&[0, 0], &[[1, 0, 5, 3]])));
+    let (sheet, good) = (sheet::write(1, &case("f")), scripts::write(&script(&[0, 0], &[[1, 0, 5, 3]])));
     let number = |script: &[u8]| answers::play(&sheet, script);
     let body = &good[..good.len() - 2];
     assert_eq!(number(&good) & 0xFF, 0);
@@ -232,7 +263,7 @@ fn each_13_and_the_sheet_first() {
     // fill: three tasks have half a byte
     let three = Set { policy: 0, tasks: vec![task(9, 9, 0, &[1]); 3] };
     let fill = |bits| check_word::sealed(&[0, 0, 0, 0, bits]);
-    let of_three = |bits| answers::play(&sheet::write(&three), &fill(bits));
+    let of_three = |bits| answers::play(&sheet::write(1, &three), &fill(bits));
     assert_eq!((of_three(0), of_three(1), of_three(8)), (16 << 40, 13, 13));
     // check word, and 13 before 14
     assert_eq!(number(&[body, &[0, 0]].concat()), 13);
@@ -244,15 +275,16 @@ fn each_13_and_the_sheet_first() {
     assert_eq!(both(&bits::inverted(&sheet, 20), &wrong_first), [2; 2]);
     let mut locked = case("f");
     locked.tasks[1].lock = 6;
-    assert_eq!(both(&sheet::write(&locked), &good[1..]), [0x10A; 2]);
-    assert_eq!(both(&sheet::write(&case("i")), &[]), [answers::refused(sheet::read(&sheet::write(&case("i"))).unwrap_err()); 2]);
-    assert_eq!(answers::worst_run(&sheet::write(&locked), &mut []), 0x10A);
+    let [locked, unordered] = [locked, case("i")].map(|set| sheet::write(2, &set));
+    assert_eq!(both(&locked, &good[1..]), [0x10A; 2]);
+    assert_eq!(both(&unordered, &[]), [answers::refused(sheet::read(&unordered).unwrap_err()); 2]);
+    assert_eq!(answers::worst_run(&locked, &mut []), 0x10A);
 }
 
 /// 12 comes last, and a set that holds needs no room.
 #[test]
 fn room() {
-    let (f, g) = (sheet::write(&case("f")), sheet::write(&case("g")));
+    let (f, g) = (sheet::write(1, &case("f")), sheet::write(1, &case("g")));
     let mut room = [0xEE; 23];
     assert_eq!((answers::worst_run(&f, &mut []), answers::worst_run(&f, &mut room)), (0, 0));
     assert_eq!((answers::worst_run(&g, &mut []), answers::worst_run(&g, &mut room[..21])), (12, 12));
@@ -281,10 +313,13 @@ struct Told {
 
 fn told(set: &Set, script: &Script) -> Vec<Told> {
     let mut works = vec![0; set.tasks.len()];
+    let firsts = script.first_frames.iter().zip(&set.tasks);
+    let mut deadlines: Vec<_> = firsts.map(|(&first, task)| task.deadlines.iter().cycle().skip(first as usize)).collect();
     let tell = |entry: &Entry| {
         let (task, release) = (entry.task as usize, u64::from(entry.tick));
         works[task] += u64::from(entry.work);
-        Told { task, release, due: release + u64::from(set.tasks[task].deadline), complete_with: works[task], lock: u64::from(entry.lock) }
+        let due = release + u64::from(*deadlines[task].next().unwrap());
+        Told { task, release, due, complete_with: works[task], lock: u64::from(entry.lock) }
     };
     script.entries.iter().map(tell).collect()
 }
@@ -397,13 +432,31 @@ fn plays_looked_at_again() {
     assert_eq!(missed_tasks.len(), MOST_TASKS);
 }
 
+/// Plays and worst runs that are compared elsewhere would tell a wrong reading of deadlines by frame.
+#[test]
+fn wrong_readings_would_be_told() {
+    let (mut plays_told, mut worst_told) = (BTreeMap::new(), BTreeMap::new());
+    for (set, script) in plays(48, 12_000).filter(|(set, _)| set.policy != 2) {
+        let (play, worst) = (scripts::play(&set, &script), scripts::worst(&set));
+        for (name, reading) in generate::WRONG_READINGS {
+            let other = generate::read_as(&set, reading);
+            *plays_told.entry(name).or_insert(0u64) += u64::from(scripts::play(&other, &script) != play);
+            *worst_told.entry(name).or_insert(0u64) += u64::from(scripts::worst(&other) != worst);
+        }
+    }
+    println!("wrong readings of deadlines told by plays: {plays_told:?}; by worst runs: {worst_told:?}");
+    assert!(plays_told.values().chain(worst_told.values()).all(|&count| count >= 100));
+}
+
 /// Releases up to the last tick, and periods up to the longest: the play ends by twice the longest time.
 #[test]
 fn plays_end() {
     let mut random = Random::new(41);
     let mut last = 0;
     for i in 0..24 {
-        let set = if i % 2 == 0 { generate::edge_set(&mut random) } else { script_inputs::short_set(&mut random, 3) };
+        let mut set = if i % 2 == 0 { generate::edge_set(&mut random) } else { script_inputs::short_set(&mut random, 3) };
+        // of many tasks one misses soon
+        set.tasks.truncate(3);
         let from = MOST_TICKS - random.below(60) as u32;
         let script = script_inputs::script(&mut random, &set, from, 3);
         assert_eq!(scripts::judge(&set, &script), Ok(()), "{set:?} {script:?}");
@@ -441,7 +494,7 @@ fn damaged_scripts_are_refused_as_meant() {
     let mut random = Random::new(42);
     let (mut ways, mut items) = (BTreeMap::new(), BTreeSet::new());
     for (set, script) in plays(43, 400) {
-        let sheet = sheet::write(&set);
+        let sheet = sheet::write(2, &set);
         for damaged in script_inputs::damaged_scripts(&mut random, &set, &script) {
             let answer = answers::play(&sheet, &damaged.bytes);
             assert_eq!(answer, answers::refused(damaged.refusal), "{}: {set:?} {script:?}", damaged.way);
@@ -486,7 +539,7 @@ fn muddled_scripts() {
 fn every_changed_bit_is_refused() {
     let mut changed = 0;
     for (set, script) in plays(46, 300) {
-        let (sheet, bytes) = (sheet::write(&set), scripts::write(&script));
+        let (sheet, bytes) = (sheet::write(2, &set), scripts::write(&script));
         for at in 0..8 * bytes.len() {
             assert_eq!(answers::play(&sheet, &bits::inverted(&bytes, at)), 13, "bit {at} of {bytes:02x?}");
             changed += 1;
@@ -511,7 +564,7 @@ fn every_worst_run(set: &Set, named: usize) {
                     assert_eq!(play.missed, None, "{set:?} {script:?}");
                     assert!(play.complete.iter().any(|job| (job.task, job.frame, job.release, job.took) == (number, frame, 1, took)));
                 }
-                None => assert_eq!((play.tick, play.missed), (1 + u64::from(set.tasks[number].deadline), Some(number))),
+                None => assert_eq!((play.tick, play.missed), (1 + u64::from(set.tasks[number].deadlines[frame]), Some(number))),
             }
         }
     }
@@ -521,6 +574,7 @@ fn every_worst_run(set: &Set, named: usize) {
 fn worst_runs_of_missed_sets() {
     let mut random = Random::new(47);
     let (mut holds, mut missed, mut with_blocker, mut not_frame_0, mut not_the_largest, mut greatest) = (0, 0, 0, 0, 0, 0);
+    let (mut a_larger_in_time, mut equal_in_time) = (0, 0);
     for i in 0..PLAYS {
         let set = match i % 50 {
             0 => generate::tiny_set(&mut random),
@@ -538,23 +592,30 @@ fn worst_runs_of_missed_sets() {
         assert_eq!(scripts::judge(&set, &script), Ok(()), "{set:?} {script:?}");
         let play = scripts::play(&set, &script);
         look_again(&set, &script, &play, &mut Tally::default());
-        assert_eq!((play.tick, play.missed), (1 + u64::from(task.deadline), Some(number)), "{set:?}");
+        let deadline = task.deadlines[first];
+        assert_eq!((play.tick, play.missed), (1 + u64::from(deadline), Some(number)), "{set:?}");
         let order = analysis::order(&set);
-        let higher = order.iter().take_while(|&&i| i != number).map(|&i| task.deadline.div_ceil(set.tasks[i].period));
+        let higher = order.iter().take_while(|&&i| i != number).map(|&i| deadline.div_ceil(set.tasks[i].period));
         let entries = usize::from(blocker.is_some()) + 1 + higher.sum::<u32>() as usize;
         assert_eq!(script.entries.len(), entries);
-        assert!(entries <= task.deadline as usize + set.tasks.len() + 1 && script.entries.iter().all(|e| e.tick <= task.deadline));
+        assert!(entries <= deadline as usize + set.tasks.len() + 1 && script.entries.iter().all(|e| e.tick <= deadline));
         missed += 1;
         with_blocker += usize::from(blocker.is_some());
         not_frame_0 += usize::from(first > 0);
         not_the_largest += usize::from(task.frames[first] < task.largest_frame());
+        let in_time = |frame: usize| play_worst_run(&set, number, frame).unwrap().is_some();
+        let others = || (0..task.frames.len()).filter(|&frame| in_time(frame)).map(|frame| task.frames[frame]);
+        a_larger_in_time += usize::from(others().any(|time| time > task.frames[first]));
+        equal_in_time += usize::from(others().any(|time| time == task.frames[first]));
         greatest = greatest.max(entries);
         if i % 10 == 0 {
             every_worst_run(&set, number);
         }
     }
     println!("worst runs: {holds} sets hold, {missed} miss, {with_blocker} with a blocker, {not_frame_0} not at frame 0, {not_the_largest} not at a largest frame, up to {greatest} entries");
+    println!("worst runs of frames beside a larger one that is in time: {a_larger_in_time}, beside one of equal time: {equal_in_time}");
     assert!(holds > 10_000 && missed > 20_000 && with_blocker > 5_000 && not_frame_0 > 2_000 && not_the_largest > 1_000);
+    assert!(a_larger_in_time > 1_000 && equal_in_time > 500);
 }
 
 /// The longest scripts of worst runs that were found, and the longest periods.
@@ -563,7 +624,7 @@ fn long_worst_runs() {
     let missing = &generate::costly_sets()[0];
     let script = scripts::worst(missing).unwrap();
     assert_eq!(script.entries.len(), 1 + MOST_TICKS as usize);
-    let play = scripts::play_sheet(&sheet::write(missing), &scripts::write(&script)).unwrap();
+    let play = scripts::play_sheet(&sheet::write(1, missing), &scripts::write(&script)).unwrap();
     assert_eq!((play.tick, play.missed), (1 + u64::from(MOST_TICKS), Some(1)));
     assert!(play.shown[1..].iter().all(|&shown| shown == 0) && play.shown[0] == IDLE);
 }

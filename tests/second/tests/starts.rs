@@ -28,14 +28,15 @@ impl Entries {
         generate::likely_room(&mut self.random, need)
     }
 
-    /// The set by its list and by its sheet, which are refused alike; the answer of the sheet's analysis.
+    /// The set by its list and by its sheet, which are refused alike, also by a writer of the other version; the answer of the sheet's analysis.
     fn compare(&mut self, set: &Set) -> u64 {
-        let (bytes, n) = (sheet::write(set), set.tasks.len());
+        let (bytes, n) = (generate::sheet_of(&mut self.random, set), set.tasks.len());
+        let version = 1 + self.random.below(2) as u32;
         let list = generate::littered(&mut self.random, set.list());
-        let [records, length, times] = [n, bytes.len(), MOST_FRAMES * n].map(|need| self.room(need));
+        let [records, length, times] = [n, sheet::length(version, set), MOST_FRAMES * n].map(|need| self.room(need));
         let answer = self.sheets.analyse_sheet(&bytes, times);
         let read = self.read.read_list(&bytes, records);
-        let written = self.written.write_list(set.policy, &list, length);
+        let written = self.written.write_list(version, set.policy, &list, length);
         let analysed = self.lists.analyse_list(set.policy, &list, times);
         if answer % 256 == 11 {
             assert_eq!([read, written, analysed], [answer; 3], "{set:?}");
@@ -44,12 +45,8 @@ impl Entries {
         answer
     }
 
-    fn each(&self) -> [(&'static str, &Compared); 4] {
-        [("sheets read", &self.read), ("lists written", &self.written), ("lists analysed", &self.lists), ("sheets analysed", &self.sheets)]
-    }
-
     fn total(&self) -> u64 {
-        self.each().iter().map(|(_, compared)| compared.total()).sum()
+        [&self.read, &self.written, &self.lists, &self.sheets].iter().map(|compared| compared.total()).sum()
     }
 }
 
@@ -101,8 +98,8 @@ impl Reached {
 
 /// The list as that of a task, with a task below it that waits for one round of it and more.
 fn over_a_long_task(frames: &[u32]) -> Set {
-    let task = |period, frames| Task { period, deadline: period, lock: 0, frames };
-    Set { policy: 0, tasks: vec![task(5, frames.to_vec()), task(200, (1..=8).rev().map(|n| 4 * n).collect())] }
+    let task = |period, frames: &[u32]| Task::with_one_deadline(period, period, 0, frames);
+    Set { policy: 0, tasks: vec![task(5, frames), task(200, &[8, 7, 6, 5, 4, 3, 2, 1].map(|n| 4 * n))] }
 }
 
 /// Every list of times from 1 to 4 alone, and one that has a start also over a task that waits for it.
@@ -145,7 +142,11 @@ fn the_first_task_without_a_start() {
     reached.finish("sets of any lists", 50);
     println!("{} comparisons; sets with several tasks without a start: {several}", entries.total());
     assert!(several >= 1_000);
-    entries.each().iter().for_each(|(what, compared)| compared.finish(what, &[0, 11, 12]));
+    let of_sheets: [(u32, &[u64]); 2] = [(1, &[0, 11, 12]), (2, &[0, 11, 12])];
+    entries.read.finish("sheets read", &of_sheets);
+    entries.sheets.finish("sheets analysed", &of_sheets);
+    entries.lists.finish("lists analysed", &[(0, &[0, 11, 12])]);
+    entries.written.finish("lists written", &[(1, &[0, 11, 12, 17]), (2, &[0, 11, 12])]);
 }
 
 /// Beside a task without a start something else is wrong, in every way of the scope's table: what comes first is the answer.
@@ -161,13 +162,14 @@ fn eleven_keeps_its_place() {
             let [refusal, task, ..] = answer.to_le_bytes().map(usize::from);
             *beside.entry((refusal, task.cmp(&number))).or_insert(0u64) += 1;
         };
-        for damaged in generate::damaged_sheets(&mut random, &set) {
+        let version = generate::version_for(&mut random, &set);
+        for damaged in generate::damaged_sheets(&mut random, version, &set) {
             entries.read.read_list(&damaged.bytes, random.below(17) as usize);
             count(entries.sheets.analyse_sheet(&damaged.bytes, random.below(140) as usize));
         }
         for damaged in generate::damaged_lists(&mut random, &set) {
             let list = generate::littered(&mut random, damaged.list);
-            entries.written.write_list(damaged.policy, &list, random.below(460) as usize);
+            entries.written.write_list(version, damaged.policy, &list, random.below(740) as usize);
             count(entries.lists.analyse_list(damaged.policy, &list, random.below(140) as usize));
         }
     }

@@ -53,7 +53,7 @@ fn the_formula_is_the_sum_over_the_jobs() {
     for (frames, n) in &inputs {
         let (m, start) = (frames.len(), start_frame(frames).expect("no start frame"));
         let sum = sum_from(frames, start, *n);
-        let task = Task { period: MOST_TICKS, deadline: MOST_TICKS, lock: 0, frames: frames.clone() };
+        let task = Task::with_one_deadline(MOST_TICKS, MOST_TICKS, 0, frames);
         assert_eq!(Higher::new(&task).work(*n as u32), sum, "{n} jobs of {frames:?}");
         assert_eq!(formula(frames, n / m, start, n % m), sum, "{n} jobs of {frames:?}");
         let (turned, remain, rounds) = (start != 0, n % m != 0, n / m >= 2);
@@ -73,7 +73,11 @@ fn short_set(random: &mut Random) -> Set {
     let tasks = 1 + random.below(6) as usize;
     let greatest_period = [60, 200][random.below(2) as usize];
     let shape = Shape { tasks, least_period: 2, greatest_period, ..generate::shape(random) };
-    generate::set_of(random, shape)
+    if generate::one_in(random, 4) {
+        generate::tight_set(random, shape)
+    } else {
+        generate::set_of(random, shape)
+    }
 }
 
 /// A task with a very short period and several frames, and longer ones that wait for rounds of it.
@@ -99,7 +103,8 @@ fn compare(random: &mut Random, set: &Set, analysis: &Analysis) {
     let length = TASK_BYTES * set.tasks.len() + random.below(9) as usize;
     let before = random.bytes(length);
     let after = [&times, &before[times.len()..]].concat();
-    assert_eq!(entry(&sheet::write(set), &before), (analysis.verdict.code(), after), "{set:?}");
+    let sheet = generate::sheet_of(random, set);
+    assert_eq!(entry(&sheet, &before), (analysis.verdict.code(), after), "{set:?}");
 }
 
 fn kind(verdict: Verdict) -> &'static str {
@@ -158,7 +163,8 @@ fn the_entry_refuses_as_the_second_reading() {
     };
     for _ in 0..100 {
         let set = short_set(&mut random);
-        let mut sheets: Vec<Vec<u8>> = generate::damaged_sheets(&mut random, &set).into_iter().map(|d| d.bytes).collect();
+        let version = generate::version_for(&mut random, &set);
+        let mut sheets: Vec<Vec<u8>> = generate::damaged_sheets(&mut random, version, &set).into_iter().map(|d| d.bytes).collect();
         sheets.extend((0..20).map(|_| generate::muddled_sheet(&mut random, &set)));
         sheets.extend((0..20).map(|_| generate::random_sheet(&mut random)));
         let length = random.below(300) as usize;
@@ -170,7 +176,7 @@ fn the_entry_refuses_as_the_second_reading() {
             }
         }
         let little = random.below((TASK_BYTES * set.tasks.len()) as u64) as usize;
-        refused(&sheet::write(&set), &random.bytes(little), Refusal::Room);
+        refused(&sheet::write(version, &set), &random.bytes(little), Refusal::Room);
     }
     println!("sheets refused by the entry, by refusal: {refusals:?}");
     assert_eq!(refusals.into_keys().collect::<Vec<u32>>(), (1..=12).collect::<Vec<u32>>());

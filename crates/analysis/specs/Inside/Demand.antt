@@ -32,7 +32,7 @@ released h t = work (h .task) (h .start) (releases t (h .task .period))
 
 -- past the last of the tasks above: nothing reads it
 abbrev pub no-higher : Higher
-no-higher = from-start (record { period = 0; deadline = 0; lock = 0; frames = [] })
+no-higher = from-start (record { period = 0; lock = 0; frames = []; deadlines = [] })
 
 -- the first tallies are those of the tasks above
 pub record Tallies (count : ℕ) (table : List (List ℕ)) : Type 0 where

@@ -1,12 +1,13 @@
 -- What the steps from a judged set to its findings ask and hand on.
-use mathlib.Core.Bool.{Bool, true, false, not}
-use mathlib.Core.List.{List, map}
+use mathlib.Core.Bool.{Bool, not, _&&_}
+use mathlib.Core.List.{List, [], _∷_, map}
 use mathlib.Core.Option.{Option·getD}
 use mathlib.Core.Path.{_≡_}
-use Prim.Native.Nat.{ℕ, _<_}
+use Prim.Native.Nat.{ℕ, zero, suc, _-_, _<_}
+use lib.Dec.{leb, eqb}
 use lib.ListN.{length, getD, take}
-use Rattle.theory.specs.First.{first}
-use Rattle.theory.specs.Tasks.{Task, task-at, frame-count, frame, largest, deadline-of, shortest-deadline, AdmittedTask}
+use Rattle.theory.specs.First.{first, every}
+use Rattle.theory.specs.Tasks.{Task, task-at, frame-count, frame, deadline-of, shortest-deadline, AdmittedTask}
 use Rattle.theory.specs.Analysis.{Higher}
 use Rattle.sheet.specs.Constants.{most-tasks}
 use Rattle.sheet.specs.Tasks.{task-in, records-of}
@@ -16,11 +17,8 @@ use Rattle.admission.specs.Judged.{shape-of, no-shape, shapes-of}
 use Rattle.admission.specs.declared.Judged.{Judged}
 use Rattle.admission.specs.declared.Shape.{Shape}
 use Rattle.order.specs.Ordered.{tasks-in-order}
-use Rattle.sheet.specs.declared.Task.{Task as Record}
 use Rattle.order.specs.declared.Ordered.{Ordered}
-use Rattle.analysis.specs.Inside.Response.{response-to}
-use Rattle.analysis.specs.declared.response.Response.{Response}
-use Rattle.analysis.specs.declared.response.Response.the-variants.{At, Never}
+use Rattle.analysis.specs.Inside.Response.{frame-response, as-written, is-there}
 use Rattle.analysis.specs.Times.{slots-by}
 use Rattle.analysis.specs.declared.Finding.{Finding}
 
@@ -39,20 +37,14 @@ pub record ShapesStand (o : Ordered) (shapes : List Shape) : Type 0 where
 unfoldable pub numbers-of : Ordered → List ℕ
 numbers-of o = take (o .count) (o .numbers)
 
--- a response as it is written: 0 where there is none
-abbrev pub as-written : Response → ℕ
-as-written (At t) = t
-as-written Never = 0
+-- whether frame k of a task has the time and the deadline of the frame before it
+unfoldable pub as-before : Task → ℕ → Bool
+as-before t k = leb 1 k && eqb (frame t k) (frame t (k - 1)) && eqb (deadline-of t k) (deadline-of t (k - 1))
 
-abbrev pub is-there : Response → Bool
-is-there (At t) = true
-is-there Never = false
-
--- the times of a task's frames, by the tasks above it and its blocking
-unfoldable pub times-to : List Higher → ℕ → Record → List ℕ
-times-to above blocked r =
-    let t = task-in r in
-    map (λ c. as-written (response-to above blocked c (shortest-deadline t))) (t .frames)
+-- the written times of n frames from frame k on, by the tasks above the task and its blocking
+unfoldable pub times-to : List Higher → ℕ → Task → ℕ → ℕ → List ℕ
+times-to above blocked t k zero = []
+times-to above blocked t k (suc n) = as-written (frame-response above blocked t k) ∷ times-to above blocked t (suc k) n
 
 -- what is found of a task, from whether it passes and its eight times
 unfoldable pub finding-with : ℕ → ℕ → Task → Bool → List ℕ → Finding
@@ -67,18 +59,17 @@ finding-with number blocked t passes times =
       times = times;
     }
 
--- whether a task passes, by the tasks above it and its blocking
-unfoldable pub passes-to : List Higher → ℕ → Record → Bool
-passes-to above blocked r = let t = task-in r in is-there (response-to above blocked (largest (t .frames)) (shortest-deadline t))
+-- a task passes, by these, if every frame has a response time
+unfoldable pub passes-to : List Higher → ℕ → Task → Bool
+passes-to above blocked t = every 0 (frame-count t) (λ k. is-there (frame-response above blocked t k))
 
 -- what is found of it by these
-unfoldable pub finding-to : List Higher → ℕ → ℕ → Record → Finding
-finding-to above number blocked r =
-    let pass = passes-to above blocked r in
-    finding-with number blocked (task-in r) pass (slots-by pass (times-to above blocked r))
+unfoldable pub finding-to : List Higher → ℕ → ℕ → Task → Finding
+finding-to above number blocked t =
+    let pass = passes-to above blocked t in
+    finding-with number blocked t pass (slots-by pass (times-to above blocked t 0 (frame-count t)))
 
--- its first frame without a response time
-unfoldable pub without-to : List Higher → ℕ → Record → ℕ
-without-to above blocked r =
-    let t = task-in r in
-    Option·getD (first 0 (frame-count t) (λ k. not (is-there (response-to above blocked (frame t k) (deadline-of t k))))) 0
+-- its first frame without a response time; the frame count where every frame has one
+unfoldable pub without-to : List Higher → ℕ → Task → ℕ
+without-to above blocked t =
+    Option·getD (first 0 (frame-count t) (λ k. not (is-there (frame-response above blocked t k)))) (frame-count t)

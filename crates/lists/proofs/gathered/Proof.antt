@@ -167,7 +167,7 @@ module _ {M : Type 1} (𝓤 : URA M) (H : Heap 𝓤) (A : Atoms 𝓤) (W : Given
         (λ less.
         assigns ! (bin ! (load ! (from ! (stop !)) (look ! 8 refl)) (lit ! tt) (record { fits = bytes-fit less })) (from ! (stop !)) (init ! 4 refl (tt, record { fits = bytes-fit less })) $
         assigns ! (bin ! (load ! (from ! (fld ! refl (stop !))) (look-in ! 16 (sub ! 0 refl (whole !)))) (load ! (from ! (stop !)) (look ! 4 refl)) tt) (from ! (stop !)) (init ! 2 refl (tt, tt)) $
-        rewrite ! 2 (λ (p : ℕ). ‵ (fat fullShare tyPtr l₉ 0 (vptr b p))) (sym (place-is 48 o (i .0))) refl $
+        rewrite ! 2 (λ (p : ℕ). ‵ (fat fullShare tyPtr l₉ 0 (vptr b p))) (sym (place-is 76 o (i .0))) refl $
         move ! (23 ∷ 22 ∷ []) $
         looks-slice ! tt T.the-row (Is T.the-row) (shows 𝓤 H A T.the-row) (λ t. task-val t ∷ []) task-tells (task-copy 𝓤 H A W) ys b o (λ q′.
         elem-out ! T.the-row (Is T.the-row) (shows 𝓤 H A T.the-row) (λ t. task-val t ∷ []) task-tells q′ ys (i .0) no-record b o (in-list less) (λ is.
@@ -209,7 +209,7 @@ module _ {M : Type 1} (𝓤 : URA M) (H : Heap 𝓤) (A : Atoms 𝓤) (W : Given
         fits : (j : Upto) → j .0 < 2 ^ 64
         fits j = omega (arith, j .1, min-le-right (length ys) 16)
 
-        bytes-fit : T (ltb (i .0) m) → i .0 * 48 < 2 ^ 64
+        bytes-fit : T (ltb (i .0) m) → i .0 * 76 < 2 ^ 64
         bytes-fit less = omega (arith, in-set less)
 
         next-fits : T (ltb (i .0) m) → i .0 + 1 < 2 ^ 64

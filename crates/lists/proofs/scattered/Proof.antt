@@ -178,7 +178,7 @@ module _ {M : Type 1} (𝓤 : URA M) (H : Heap 𝓤) (A : Atoms 𝓤) (W : Given
         land ! (from ! (stop !)) (init ! 4 refl (task-typed 𝓤 H A W record-i is .0)) $
         assigns ! (bin ! (load ! (from ! (stop !)) (look ! 10 refl)) (lit ! tt) (record { fits = bytes-fit less })) (from ! (stop !)) (init ! 2 refl (tt, record { fits = bytes-fit less })) $
         assigns ! (bin ! (load ! (from ! (fld ! refl (stop !))) (look-in ! 14 (sub ! 0 refl (whole !)))) (load ! (from ! (stop !)) (look ! 2 refl)) tt) (from ! (stop !)) (init ! 0 refl (tt, tt)) $
-        rewrite ! 0 (λ (p : ℕ). ‵ (fat fullShare tyPtr l₉ 0 (vptr b p))) (sym (place-is 48 o (i .0))) refl $
+        rewrite ! 0 (λ (p : ℕ). ‵ (fat fullShare tyPtr l₉ 0 (vptr b p))) (sym (place-is 76 o (i .0))) refl $
         move ! (20 ∷ 21 ∷ 22 ∷ []) $ opens-slice ! tt T.the-row (zs (i .0)) b o $
         elem-out ! T.the-row (Is T.the-row) (shows 𝓤 H A T.the-row) (λ t. task-val t ∷ []) task-tells fullShare (zs (i .0)) (i .0) no-record b o (in-list less) (λ _.
         -- [the record; what it owns; the others; the open borrow; the list's content, twice; _9; …]
@@ -217,7 +217,7 @@ module _ {M : Type 1} (𝓤 : URA M) (H : Heap 𝓤) (A : Atoms 𝓤) (W : Given
         fits : T (ltb (i .0) m) → i .0 < 2 ^ 64
         fits less = omega (arith, in-set less)
 
-        bytes-fit : T (ltb (i .0) m) → i .0 * 48 < 2 ^ 64
+        bytes-fit : T (ltb (i .0) m) → i .0 * 76 < 2 ^ 64
         bytes-fit less = omega (arith, in-set less)
 
         next-fits : T (ltb (i .0) m) → i .0 + 1 < 2 ^ 64

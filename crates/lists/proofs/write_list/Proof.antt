@@ -1,4 +1,4 @@
--- `write_list` meets its contract: `Handed.antt`'s walk, at `write_sheet`.
+-- `write_list` meets its contract: `Told.antt`'s walk, at `write_sheet`.
 use mir.Syntax.{w8, tyInt}
 use contract.Running.{givenOf, tables, tablesOf}
 use denote.Builtin.{u8}
@@ -7,7 +7,7 @@ use denote.Triple.Table.{entered, cited}
 use Rattle.sheet.specs.Writing.{written, left}
 use Rattle.lists.specs.Faces.{list-written, list-left}
 use Rattle.lists.proofs.Faces.{written-gathered, left-gathered}
-use Rattle.lists.proofs.Handed.{meets}
+use Rattle.lists.proofs.Told.{meets}
 use Rattle.lists.proofs.Records.{written-value}
 use Rattle.lists.proofs.gathered as gathered
 use Rattle.lists.proofs.gathered.Symbol as gathered-def

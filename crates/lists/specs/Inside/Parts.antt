@@ -26,11 +26,11 @@ unfoldable pub to-fill : TaskSet → ℕ → ℕ
 to-fill s n = cond (leb (s .«task_count») most-tasks && leb (s .«task_count») n) (s .«task_count») 0
 
 -- the answer to a reading, by whether the list is too short for the set
-unfoldable pub read-by : Answer → Bool → TaskSet → ListRead
-read-by (Refused r) short s = TurnedAway r
-read-by Admitted true s = TurnedAway Room
-read-by Admitted false s = Set (s .policy) (s .«task_count»)
+unfoldable pub read-by : Answer → Bool → ℕ → TaskSet → ListRead
+read-by (Refused r) short version s = TurnedAway r
+read-by Admitted true version s = TurnedAway Room
+read-by Admitted false version s = Set version (s .policy) (s .«task_count»)
 
 -- and for a list of n records
 unfoldable pub read-answer : Reading → ℕ → ListRead
-read-answer reading n = read-by (reading .answer) (ltb n (reading .set .«task_count»)) (reading .set)
+read-answer reading n = read-by (reading .answer) (ltb n (reading .set .«task_count»)) (reading .version) (reading .set)

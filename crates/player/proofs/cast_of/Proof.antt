@@ -4,18 +4,14 @@ use Rattle.player.proofs.Staging.{cast-is}
 use Rattle.player.proofs.cast_of.Statement.{statement}
 use Rattle.player.proofs.cast_of.Tie as tie
 
-returns : tie.Need-returns
-returns c =
-    cast-is _ _ (c .before .before .before .before .in-order .result) _ _ (c .before .before .before .before .in-order .ensures) (c .entry-count .ensures) (c .before .before .deadlines-of .ensures)
-
 in-order-requires : tie.Need-in-order-requires
 in-order-requires c κs = search needs
-
-deadlines-of-requires : tie.Need-deadlines-of-requires
-deadlines-of-requires c κs = search needs
 
 entry-count-requires : tie.Need-entry-count-requires
 entry-count-requires c κs = search needs
 
+returns : tie.Need-returns
+returns c = cast-is _ _ (c .before .before .before .in-order .result) _ (c .before .before .before .in-order .ensures) (c .entry-count .ensures)
+
 pub cast-of-spec : {M : Type 1} → statement M
-cast-of-spec = tie.close (tie.spec in-order-requires deadlines-of-requires entry-count-requires returns)
+cast-of-spec = tie.close (tie.spec in-order-requires entry-count-requires returns)

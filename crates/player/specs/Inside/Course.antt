@@ -1,21 +1,25 @@
 -- The course of a play: what is known of the script that is played, and of the player's state from moment to moment.
-use mathlib.Core.Bool.{Bool, false, cond, _&&_}
+use mathlib.Core.Bool.{Bool, true, false, cond, _&&_}
 use mathlib.Core.List.{List, List·Memᴰ}
 use mathlib.Core.Option.{none, Option·getD}
 use mathlib.Core.Path.{_≡_}
-use Prim.Native.Nat.{ℕ, _≤_, _<_}
+use Prim.Native.Nat.{ℕ, _+_, _≤_, _<_}
 use lib.Dec.{leb, ltb}
 use lib.ListN.{length, getD, take, drop}
+use Rattle.bits.specs.Packed.{bits-of}
+use Rattle.check_word.specs.Division.{body}
 use Rattle.lent.specs.Checks.{first-refusal}
 use Rattle.theory.specs.Tasks.{Task, task-at, deadline-of, Admitted}
 use Rattle.sheet.specs.Constants.{most-tasks, greatest-time}
+use Rattle.sheet.specs.Tasks.{task-in, no-record}
 use Rattle.order.specs.Claims.{Permutes}
+use Rattle.analysis.specs.Times.{place-of}
 use Rattle.plays.specs.Script.{Script, no-entry}
 use Rattle.plays.specs.Items.{item-checks}
 use Rattle.plays.specs.ScriptRun.{script-state}
 use Rattle.plays.specs.Play.{script-seen, misser, over, end-of-play, shown-from}
 use Rattle.plays.specs.declared.Entry.{Entry}
-use Rattle.scripts.specs.Reading.{entry-at}
+use Rattle.scripts.specs.Reading.{firsts-in, entry-at, well-made}
 use Rattle.player.specs.Shows.{Shows}
 use Rattle.player.specs.State.{never, picked-by, ticked, looking-ahead}
 use Rattle.player.specs.declared.state.Player.{Player}
@@ -63,9 +67,11 @@ pub record Stage (s : List ℕ) (cast : Cast) : Type 0 where
   pub sc : Script
   pub ready : Ready (take (cast .count) (cast .order)) tasks sc
   pub count-is : cast .count ≡ length tasks
+  pub made : well-made (cast .count) s ≡ true
+  pub firsts-are : firsts-in (cast .count) (bits-of (body s)) ≡ sc .firsts
   pub entries-are : cast .entries ≡ length (sc .entries)
   pub entry-is : (j : ℕ) → j < length (sc .entries) → entry-at (cast .count) s j ≡ getD (sc .entries) j no-entry
-  pub due-in : (i k : ℕ) → i < length tasks → getD (cast .deadlines) i 0 ≡ deadline-of (task-at tasks i) k
+  pub task-is : (i : ℕ) → i < length tasks → task-in (getD (cast .tasks) i no-record) ≡ task-at tasks i
 
 module _ (order : List ℕ) (tasks : List Task) (sc : Script) where
   -- at moment t, before the releases of tick t: j entries are released, those of earlier ticks
@@ -82,9 +88,18 @@ module _ (order : List ℕ) (tasks : List Task) (sc : Script) where
     pub rest-after : (d : Entry) → List·Memᴰ d (drop j (sc .entries)) → t < d .tick
     pub within : j ≤ length (sc .entries)
 
+  -- the frames kept at moment t: of each task that of its next job
+  pub record NextFrames (t : ℕ) (frames : List ℕ) : Type 0 where
+    pub room : length frames ≡ most-tasks
+    pub frame-is : (i : ℕ) → i < length tasks → getD frames i 0 ≡ script-state order tasks sc t .lanes (place-of order i) .next
+
 module _ {s : List ℕ} {cast : Cast} (stage : Stage s cast) where
   abbrev pub order-on : List ℕ
   order-on = take (cast .count) (cast .order)
+
+  -- the frames kept in this play
+  abbrev pub FramesOn : ℕ → List ℕ → Type 0
+  FramesOn t frames = NextFrames order-on (stage .tasks) (stage .sc) t frames
 
   -- how far a play has come at moment t: it is not over before
   pub record Going (t : ℕ) (at : Progress) : Type 0 where
@@ -92,10 +107,11 @@ module _ {s : List ℕ} {cast : Cast} (stage : Stage s cast) where
     pub next-is : at .next ≡ upcoming s cast (at .released)
     pub not-over : (u : ℕ) → u < t → over order-on (stage .tasks) (stage .sc) u ≡ false
 
-  -- and with the releases of tick t seen, where no task misses at moment t
-  pub record Gone (t : ℕ) (at : Progress) : Type 0 where
+  -- and with the releases of tick t seen, where no task misses at moment t; the frames are kept for the next moment
+  pub record Gone (t : ℕ) (at : Progress) (frames : List ℕ) : Type 0 where
     pub seen : Seen order-on (stage .tasks) (stage .sc) t (at .released) (at .player)
     pub next-is : at .next ≡ upcoming s cast (at .released)
+    pub frames-then : FramesOn (t + 1) frames
 
   -- how the play ends
   abbrev pub the-end : End
@@ -104,9 +120,10 @@ module _ {s : List ℕ} {cast : Cast} (stage : Stage s cast) where
       record { tick = t; task = Option·getD (misser order-on (stage .tasks) (stage .sc) t) most-tasks }
 
 -- a play at moment t at which no task misses
-pub record Calmly (s : List ℕ) (cast : Cast) (t : ℕ) (at : Progress) : Type 0 where
+pub record Calmly (s : List ℕ) (cast : Cast) (t : ℕ) (at : Progress) (frames : List ℕ) : Type 0 where
   pub stage : Stage s cast
   pub going : Going stage t at
+  pub frames-now : FramesOn stage t frames
   pub calm : misser (order-on stage) (stage .tasks) (stage .sc) t ≡ none
   pub soon : t < never
 

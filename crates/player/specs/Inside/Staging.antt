@@ -4,12 +4,10 @@ use Prim.Native.Nat.{ℕ}
 use lib.Dec.{ltb}
 use mathlib.Core.Bool.{cond}
 use lib.ListN.{length, replicate}
-use Rattle.theory.specs.Tasks.{deadline-of}
 use Rattle.sheet.specs.Constants.{most-tasks}
-use Rattle.sheet.specs.Tasks.{task-in, records-of, set-with}
+use Rattle.sheet.specs.Tasks.{task-in, blank-record, records-of, set-with}
 use Rattle.sheet.specs.Admission.{decided}
 use Rattle.sheet.specs.Reading.{sheet-checks, policy-of, tasks-of}
-use Rattle.sheet.specs.declared.Task.{Task as Record}
 use Rattle.sheet.specs.declared.TaskSet.{TaskSet}
 use Rattle.sheet.specs.declared.Answer.{Answer}
 use Rattle.sheet.specs.declared.Answer.the-variants.{Admitted, Refused}
@@ -27,19 +25,15 @@ use Rattle.player.specs.declared.Staged.{Staged}
 use Rattle.player.specs.declared.course.Cast.{Cast}
 use Rattle.player.specs.declared.course.End.{End}
 
--- the deadlines of all records
-abbrev pub deadlines-of : List Record → List ℕ
-deadlines-of records = map (λ r. deadline-of (task-in r) 0) records
-
 -- the cast of a set that plays a script
 unfoldable pub cast-for : TaskSet → List ℕ → Cast
 cast-for set bytes =
     let count = length (order-of set) in
-    record { count = count; entries = entry-count count bytes; order = ordered set .numbers; deadlines = deadlines-of (set .tasks) }
+    record { count = count; entries = entry-count count bytes; order = ordered set .numbers; tasks = set .tasks }
 
 -- where nobody plays
 abbrev pub no-cast : Cast
-no-cast = record { count = 0; entries = 0; order = replicate most-tasks 0; deadlines = replicate most-tasks 0 }
+no-cast = record { count = 0; entries = 0; order = replicate most-tasks 0; tasks = replicate most-tasks blank-record }
 
 abbrev pub not-staged : PlayRefusal → Staged
 not-staged why = record { readiness = Unplayable why; cast = no-cast }

@@ -1,11 +1,11 @@
--- `read_body` meets its contract: each return by the tests that lead there.
+-- `read_body` meets its contract.
 use mathlib.Core.Path.{sym, _∙_}
-use borrow.Author.Needs.{needs}
 use borrow.Author.Tests.{not-true, not-false}
 use denote.Ref.{now}
 use Rattle.sheet.specs.Constants.{most-tasks}
 use Rattle.sheet.proofs.Counts.{count-passed}
 use Rattle.reader.proofs.Answers.{header-missing, version-wrong, policy-wrong, spare-set, task-count-wrong, header-right}
+use borrow.Author.Needs.{needs}
 use Rattle.reader.proofs.read_body.Statement.{statement}
 use Rattle.reader.proofs.read_body.Tie as tie
 
@@ -31,23 +31,20 @@ refused-requires : tie.Need-refused-requires
 refused-requires c κs = search needs
 
 returns : tie.Need-returns
-returns c =
-    let t = c .before .before .before .before in
-    let w = t .before .before .before in
-    absurd (header-missing (now (w .before .before .args .body)) (w .before .before .pre .1) (w .before .before .pre .0) _ (w .header-widths .ensures) _ (t .take-row .ensures .0) (c .before .enum-told .given .1))
+returns c = absurd (header-missing 0 0 (now (c .before .before .before .before .before .before .before .before .before .args .body)) (c .before .before .before .before .before .before .before .before .before .pre .1) (c .before .before .before .before .before .before .before .before .before .pre .0) _ (c .before .before .before .before .before .before .before .header-widths .ensures) _ (c .before .before .before .before .take-row .ensures .0) (c .before .enum-told .given .1))
 
-array-read-if1 : tie.Need-array-read-if1
-array-read-if1 c = search needs
+array-read-version : tie.Need-array-read-version
+array-read-version c = search needs
+
+version-among-requires : tie.Need-version-among-requires
+version-among-requires c κs = search needs
 
 refused-requires-2 : tie.Need-refused-requires-2
 refused-requires-2 c κs = search needs
 
 returns-2 : tie.Need-returns-2
 returns-2 c =
-    let b = c .before .before .before in
-    let t = b .before .before .before in
-    let w = t .before .before .before in
-    c .refused2 .ensures ∙ version-wrong _ (w .before .before .pre .1) (w .before .before .pre .0) _ (w .header-widths .ensures) _ (t .take-row .ensures .0) _ (b .start .given .1) _ (t .take-row .ensures .1) (c .before .if1 .taken)
+    c .refused2 .ensures ∙ version-wrong _ _ _ (c .before .before .before .before .before .before .before .before .before .before .before .before .pre .1) (c .before .before .before .before .before .before .before .before .before .before .before .before .pre .0) _ (c .before .before .before .before .before .before .before .before .before .before .header-widths .ensures) _ (c .before .before .before .before .before .before .before .take-row .ensures .0) _ (c .before .before .before .before .start .given .1) _ (c .before .before .before .before .before .before .before .take-row .ensures .1) (sym (c .before .before .version-among .ensures) ∙ not-true _ (c .before .if1 .taken))
 
 array-read-policy : tie.Need-array-read-policy
 array-read-policy c = search needs
@@ -60,12 +57,8 @@ refused-requires-3 c κs = search needs
 
 returns-3 : tie.Need-returns-3
 returns-3 c =
-    let p = c .before .before in
-    let v = p .before in
-    let b = v .before .before in
-    let t = b .before .before .before in
-    let w = t .before .before .before in
-    c .refused3 .ensures ∙ policy-wrong _ (w .before .before .pre .1) (w .before .before .pre .0) _ (w .header-widths .ensures) _ (t .take-row .ensures .0) _ (b .start .given .1) _ (t .take-row .ensures .1) (v .if1 .left) (sym (p .known-policy .ensures) ∙ not-true _ (c .before .if2 .taken))
+    c .refused3 .ensures
+    ∙ policy-wrong _ _ _ (c .before .before .before .before .before .before .before .before .before .before .before .before .before .before .pre .1) (c .before .before .before .before .before .before .before .before .before .before .before .before .before .before .pre .0) _ (c .before .before .before .before .before .before .before .before .before .before .before .before .header-widths .ensures) _ (c .before .before .before .before .before .before .before .before .before .take-row .ensures .0) _ (c .before .before .before .before .before .before .start .given .1) _ (c .before .before .before .before .before .before .before .before .before .take-row .ensures .1) (sym (c .before .before .before .before .version-among .ensures) ∙ not-false _ (c .before .before .before .if1 .left)) (sym (c .before .before .known-policy .ensures) ∙ not-true _ (c .before .if2 .taken))
 
 array-read-if3 : tie.Need-array-read-if3
 array-read-if3 c = search needs
@@ -75,13 +68,8 @@ refused-requires-4 c κs = search needs
 
 returns-4 : tie.Need-returns-4
 returns-4 c =
-    let q = c .before .before in
-    let p = q .before in
-    let v = p .before in
-    let b = v .before .before in
-    let t = b .before .before .before in
-    let w = t .before .before .before in
-    c .refused4 .ensures ∙ spare-set _ (w .before .before .pre .1) (w .before .before .pre .0) _ (w .header-widths .ensures) _ (t .take-row .ensures .0) _ (b .start .given .1) _ (t .take-row .ensures .1) (v .if1 .left) (sym (p .known-policy .ensures) ∙ not-false _ (q .if2 .left)) (c .before .if3 .taken)
+    c .refused4 .ensures
+    ∙ spare-set _ _ _ (c .before .before .before .before .before .before .before .before .before .before .before .before .before .before .before .pre .1) (c .before .before .before .before .before .before .before .before .before .before .before .before .before .before .before .pre .0) _ (c .before .before .before .before .before .before .before .before .before .before .before .before .before .header-widths .ensures) _ (c .before .before .before .before .before .before .before .before .before .before .take-row .ensures .0) _ (c .before .before .before .before .before .before .before .start .given .1) _ (c .before .before .before .before .before .before .before .before .before .before .take-row .ensures .1) (sym (c .before .before .before .before .before .version-among .ensures) ∙ not-false _ (c .before .before .before .before .if1 .left)) (sym (c .before .before .before .known-policy .ensures) ∙ not-false _ (c .before .before .if2 .left)) (c .before .if3 .taken)
 
 array-read-count : tie.Need-array-read-count
 array-read-count c = search needs
@@ -94,32 +82,16 @@ refused-requires-5 c κs = search needs
 
 returns-5 : tie.Need-returns-5
 returns-5 c =
-    let m = c .before .before in
-    let z = m .before in
-    let q = z .before in
-    let p = q .before in
-    let v = p .before in
-    let b = v .before .before in
-    let t = b .before .before .before in
-    let w = t .before .before .before in
     c .refused5 .ensures
-    ∙ task-count-wrong _ (w .before .before .pre .1) (w .before .before .pre .0) _ (w .header-widths .ensures) _ (t .take-row .ensures .0) _ (b .start .given .1) _ (t .take-row .ensures .1) (v .if1 .left) (sym (p .known-policy .ensures) ∙ not-false _ (q .if2 .left)) (z .if3 .left) (sym (m .miscounted .ensures) ∙ c .before .if4 .taken)
+    ∙ task-count-wrong _ _ _ (c .before .before .before .before .before .before .before .before .before .before .before .before .before .before .before .before .before .pre .1) (c .before .before .before .before .before .before .before .before .before .before .before .before .before .before .before .before .before .pre .0) _ (c .before .before .before .before .before .before .before .before .before .before .before .before .before .before .before .header-widths .ensures) _ (c .before .before .before .before .before .before .before .before .before .before .before .before .take-row .ensures .0) _ (c .before .before .before .before .before .before .before .before .before .start .given .1) _ (c .before .before .before .before .before .before .before .before .before .before .before .before .take-row .ensures .1) (sym (c .before .before .before .before .before .before .before .version-among .ensures) ∙ not-false _ (c .before .before .before .before .before .before .if1 .left)) (sym (c .before .before .before .before .before .known-policy .ensures) ∙ not-false _ (c .before .before .before .before .if2 .left)) (c .before .before .before .if3 .left) (sym (c .before .before .miscounted .ensures) ∙ c .before .if4 .taken)
 
 read-records-requires : tie.Need-read-records-requires
 read-records-requires c κs = (count-passed _ most-tasks (sym (c .before .miscounted .ensures) ∙ c .if4 .left) .1, search needs)
 
 returns-6 : tie.Need-returns-6
 returns-6 c =
-    let m = c .before .before in
-    let z = m .before in
-    let q = z .before in
-    let p = q .before in
-    let v = p .before in
-    let b = v .before .before in
-    let t = b .before .before .before in
-    let w = t .before .before .before in
     c .read-records .ensures
-    ∙ header-right _ (w .before .before .pre .1) (w .before .before .pre .0) _ (w .header-widths .ensures) _ (t .take-row .ensures .0) _ (b .start .given .1) _ (t .take-row .ensures .1) (v .if1 .left) (sym (p .known-policy .ensures) ∙ not-false _ (q .if2 .left)) (z .if3 .left) (sym (m .miscounted .ensures) ∙ c .before .if4 .left)
+    ∙ header-right _ _ _ (c .before .before .before .before .before .before .before .before .before .before .before .before .before .before .before .before .before .pre .1) (c .before .before .before .before .before .before .before .before .before .before .before .before .before .before .before .before .before .pre .0) _ (c .before .before .before .before .before .before .before .before .before .before .before .before .before .before .before .header-widths .ensures) _ (c .before .before .before .before .before .before .before .before .before .before .before .before .take-row .ensures .0) _ (c .before .before .before .before .before .before .before .before .before .start .given .1) _ (c .before .before .before .before .before .before .before .before .before .before .before .before .take-row .ensures .1) (sym (c .before .before .before .before .before .before .before .version-among .ensures) ∙ not-false _ (c .before .before .before .before .before .before .if1 .left)) (sym (c .before .before .before .before .before .known-policy .ensures) ∙ not-false _ (c .before .before .before .before .if2 .left)) (c .before .before .before .if3 .left) (sym (c .before .before .miscounted .ensures) ∙ c .before .if4 .left)
 
 pub read-body-spec : {M : Type 1} → statement M
 read-body-spec =
@@ -133,7 +105,8 @@ read-body-spec =
     enum-told
     refused-requires
     returns
-    array-read-if1
+    array-read-version
+    version-among-requires
     refused-requires-2
     returns-2
     array-read-policy

@@ -1,26 +1,17 @@
--- `read_record` meets its contract: each return by the tests that lead there.
+-- `read_record` meets its contract.
 use mathlib.Core.Path.{sym, _∙_}
-use borrow.Author.Needs.{needs}
 use Rattle.sheet.specs.Constants.{most-frames}
 use Rattle.sheet.proofs.Counts.{count-passed}
 use Rattle.reader.proofs.Answers.{fixed-missing, frame-count-wrong, frames-missing, record-there}
+use borrow.Author.Needs.{needs}
 use Rattle.reader.proofs.read_record.Statement.{statement}
 use Rattle.reader.proofs.read_record.Tie as tie
 
-fixed-widths-requires : tie.Need-fixed-widths-requires
-fixed-widths-requires c κs = search needs
+read-fixed-requires : tie.Need-read-fixed-requires
+read-fixed-requires c κs = search needs
 
-slice-aggregate-take-row : tie.Need-slice-aggregate-take-row
-slice-aggregate-take-row c = search needs
-
-slice-aggregate-take-row-2 : tie.Need-slice-aggregate-take-row-2
-slice-aggregate-take-row-2 c = search needs
-
-take-row-requires : tie.Need-take-row-requires
-take-row-requires c κs = search needs
-
-enum-known-behind : tie.Need-enum-known-behind
-enum-known-behind c = search needs
+enum-known-fixed-end : tie.Need-enum-known-fixed-end
+enum-known-fixed-end c = search needs
 
 enum-told : tie.Need-enum-told
 enum-told c = search needs
@@ -30,12 +21,11 @@ not-found-requires c κs = search needs
 
 returns : tie.Need-returns
 returns c =
-    let t = c .before .before .before .before in
-    let w = t .before .before .before in
-    c .not-found .ensures ∙ fixed-missing _ (w .before .before .pre) _ _ _ (w .fixed-widths .ensures) _ (t .take-row .ensures .0) (c .before .enum-told .given .1)
+    let x = c .before .before .before in
+    c .not-found .ensures ∙ fixed-missing _ (c .before .before .before .before .before .pre) _ _ _ _ (x .read-fixed .ensures) (c .before .enum-told .given .1)
 
-array-read-count : tie.Need-array-read-count
-array-read-count c = search needs
+count-in-requires : tie.Need-count-in-requires
+count-in-requires c κs = search needs
 
 miscounted-requires : tie.Need-miscounted-requires
 miscounted-requires c κs = search needs
@@ -46,14 +36,12 @@ not-found-requires-2 c κs = search needs
 returns-2 : tie.Need-returns-2
 returns-2 c =
     let m = c .before .before in
-    let b = m .before .before in
-    let t = b .before .before .before in
-    let w = t .before .before .before in
+    let x = c .before .before .before .before .before .before .before .before in
     c .not-found2 .ensures
-    ∙ frame-count-wrong _ (w .before .before .pre) _ _ _ (w .fixed-widths .ensures) _ (t .take-row .ensures .0) _ (b .behind .given .1) _ (t .take-row .ensures .1) (sym (m .miscounted .ensures) ∙ c .before .if1 .taken)
+    ∙ frame-count-wrong _ (c .before .before .before .before .before .before .before .before .before .before .pre) _ _ _ _ (x .read-fixed .ensures) _ (c .before .before .before .before .before .before .fixed-end .given .1) _ (m .before .count-in .ensures) (sym (m .miscounted .ensures) ∙ c .before .if1 .taken)
 
-read-times-requires : tie.Need-read-times-requires
-read-times-requires c κs = count-passed _ most-frames (sym (c .before .miscounted .ensures) ∙ c .if1 .left) .1
+read-frames-requires : tie.Need-read-frames-requires
+read-frames-requires c κs = count-passed _ most-frames (sym (c .before .miscounted .ensures) ∙ c .if1 .left) .1
 
 enum-known-end : tie.Need-enum-known-end
 enum-known-end c = search needs
@@ -66,55 +54,39 @@ not-found-requires-3 c κs = search needs
 
 returns-3 : tie.Need-returns-3
 returns-3 c =
-    let x = c .before .before .before in
-    let m = x .before .before in
-    let b = m .before .before in
-    let t = b .before .before .before in
-    let w = t .before .before .before in
+    let f = c .before .before .before in
+    let m = c .before .before .before .before .before in
+    let x = c .before .before .before .before .before .before .before .before .before .before .before in
     c .not-found3 .ensures
-    ∙ frames-missing _ (w .before .before .pre) _ _ _ (w .fixed-widths .ensures) _ (t .take-row .ensures .0) _ (b .behind .given .1) _ (t .take-row .ensures .1) (sym (m .miscounted .ensures) ∙ x .before .if1 .left) _ (x .read-times .ensures) (c .before .enum-told2 .given .1)
+    ∙ frames-missing _ (c .before .before .before .before .before .before .before .before .before .before .before .before .before .pre) _ _ _ _ (x .read-fixed .ensures) _ (c .before .before .before .before .before .before .before .before .before .fixed-end .given .1) _ (m .before .count-in .ensures) (sym (m .miscounted .ensures) ∙ f .before .if1 .left) _ (f .read-frames .ensures) (c .before .enum-told2 .given .1)
 
-array-read-t21 : tie.Need-array-read-t21
-array-read-t21 c = search needs
-
-array-read-t30 : tie.Need-array-read-t30
-array-read-t30 c = search needs
-
-array-read-t33 : tie.Need-array-read-t33
-array-read-t33 c = search needs
+task-from-requires : tie.Need-task-from-requires
+task-from-requires c κs = count-passed _ most-frames (sym (c .before .before .before .before .before .before .miscounted .ensures) ∙ c .before .before .before .before .before .if1 .left) .1
 
 returns-4 : tie.Need-returns-4
 returns-4 c =
-    let n = c .before .before in
-    let x = n .before .before in
-    let m = x .before .before in
-    let b = m .before .before in
-    let t = b .before .before .before in
-    let w = t .before .before .before in
-    record-there _ (w .before .before .pre) _ _ _ (w .fixed-widths .ensures) _ (t .take-row .ensures .0) _ (b .behind .given .1) _ (t .take-row .ensures .1) (sym (m .miscounted .ensures) ∙ x .before .if1 .left) _ (x .read-times .ensures) _ (n .end .given .1)
+    let f = c .before .before .before .before .before in
+    let m = c .before .before .before .before .before .before .before in
+    let x = c .before .before .before .before .before .before .before .before .before .before .before .before .before in
+    record-there _ (c .before .before .before .before .before .before .before .before .before .before .before .before .before .before .before .pre) _ _ _ _ (x .read-fixed .ensures) _ (c .before .before .before .before .before .before .before .before .before .before .before .fixed-end .given .1) _ (m .before .count-in .ensures) (sym (m .miscounted .ensures) ∙ f .before .if1 .left) _ (f .read-frames .ensures) _ (c .before .before .before .end .given .1) _ (c .task-from .ensures)
 
 pub read-record-spec : {M : Type 1} → statement M
 read-record-spec =
     tie.close
     (tie.spec
-    fixed-widths-requires
-    slice-aggregate-take-row
-    slice-aggregate-take-row-2
-    take-row-requires
-    enum-known-behind
+    read-fixed-requires
+    enum-known-fixed-end
     enum-told
     not-found-requires
     returns
-    array-read-count
+    count-in-requires
     miscounted-requires
     not-found-requires-2
     returns-2
-    read-times-requires
+    read-frames-requires
     enum-known-end
     enum-told-2
     not-found-requires-3
     returns-3
-    array-read-t21
-    array-read-t30
-    array-read-t33
+    task-from-requires
     returns-4)

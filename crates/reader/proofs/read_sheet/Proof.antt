@@ -1,14 +1,15 @@
--- `read_sheet` meets its contract: the answer is `reading` of the bytes, whatever they are.
-use Rattle.reader.proofs.Whole.{reading-judged}
+-- `read_sheet` meets its contract.
+use Rattle.sheet.specs.Reading.{reading}
 use borrow.Author.Needs.{needs}
 use Rattle.reader.proofs.read_sheet.Statement.{statement}
 use Rattle.reader.proofs.read_sheet.Tie as tie
 
-admit-sheet-requires : tie.Need-admit-sheet-requires
-admit-sheet-requires c κs = search needs
+read-among-requires : tie.Need-read-among-requires
+read-among-requires c κs = search needs
 
 returns : tie.Need-returns
-returns c = rw (c .before .admit-sheet .ensures) (reading-judged _)
+unfolding reading
+returns c = c .read-among .ensures
 
 pub read-sheet-spec : {M : Type 1} → statement M
-read-sheet-spec = tie.close (tie.spec admit-sheet-requires returns)
+read-sheet-spec = tie.close (tie.spec read-among-requires returns)

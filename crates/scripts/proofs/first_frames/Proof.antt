@@ -1,5 +1,5 @@
 -- `first_frames` meets its contract.
-use mathlib.Core.Path.{sym, ap}
+use mathlib.Core.Path.{sym, ap, _∙_}
 use native.Mathlib.Omega.{arith}
 use denote.Ref.{now}
 use lib.ListN.{length}
@@ -15,15 +15,18 @@ first-frame-widths-requires c κs = search needs
 body-size-requires : tie.Need-body-size-requires
 body-size-requires c κs = search needs
 
+in-use-requires : tie.Need-in-use-requires
+in-use-requires c κs = search needs
+
 slice-aggregate-take-row : tie.Need-slice-aggregate-take-row
-slice-aggregate-take-row c = sym (length-take-le _ (now (c .before .before .before .before .args .script)) (omega arith))
+slice-aggregate-take-row c = sym (length-take-le _ (now (c .before .before .before .before .before .args .script)) (omega arith))
 
 array-share-prefix-widths : tie.Need-array-share-prefix-widths
 array-share-prefix-widths c = search needs
 
 slice-aggregate-take-row-2 : tie.Need-slice-aggregate-take-row-2
 slice-aggregate-take-row-2 c =
-    let w = c .before .before .before in
+    let w = c .before .before .before .before in
     let long = ap length (w .first-frame-widths .ensures) in
     sym (length-take-le _ (w .first-frame-widths .result) (omega arith))
 
@@ -35,9 +38,10 @@ take-row-requires c κs = search needs
 
 returns : tie.Need-returns
 returns c =
-    let b = c .before .before .before .before .before in
-    let start = b .before .before .before in
-    firsts-taken _ (now (start .args .script)) (start .pre .0) (start .pre .1) _ _ _ (b .body-size .ensures) (b .before .first-frame-widths .ensures) (c .before .take-row .ensures .1)
+    let used = c .before .before .before .before .before in
+    let start = used .before .before .before .before in
+    c .before .take-row .ensures .1
+    ∙ firsts-taken _ (now (start .args .script)) _ _ _ (used .before .body-size .ensures) (used .in-use .ensures) (used .before .before .first-frame-widths .ensures)
 
 pub first-frames-spec : {M : Type 1} → statement M
 first-frames-spec =
@@ -45,6 +49,7 @@ first-frames-spec =
     (tie.spec
     first-frame-widths-requires
     body-size-requires
+    in-use-requires
     slice-aggregate-take-row
     array-share-prefix-widths
     slice-aggregate-take-row-2

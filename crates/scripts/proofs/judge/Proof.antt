@@ -13,7 +13,7 @@ use Rattle.sheet.proofs.Records.{mapped-length, records-used}
 use Rattle.order.proofs.Below.{in-use-length}
 use Rattle.scripts.specs.Reading.{well-made}
 use Rattle.scripts.specs.Judging.{judgement}
-use Rattle.scripts.proofs.Entries.{firsts-in-slots}
+use Rattle.scripts.proofs.Entries.{firsts-in-slots, firsts-there}
 use Rattle.scripts.proofs.Whole.{sound-row, never-malformed, malformed, firsts-decide, entries-decide}
 use borrow.Author.Needs.{needs}
 use Rattle.scripts.proofs.judge.Statement.{statement}
@@ -52,7 +52,7 @@ returns : tie.Need-returns
 returns c = malformed _ _ (many (c .before .before)) _ (sym (c .before .well-made .ensures) ∙ not-true _ (c .if1 .taken)) ∙ used (c .before .before)
 
 first-frames-requires : tie.Need-first-frames-requires
-first-frames-requires c κs = (omega arith, made-well (c .before))
+first-frames-requires c κs = search needs
 
 judge-firsts-requires : tie.Need-judge-firsts-requires
 judge-firsts-requires c κs = search needs
@@ -77,7 +77,7 @@ returns-2 c =
     let z = h .before .before .before in
     let u = z .before .before in
     c .judge-entries .ensures
-    ∙ entries-decide _ _ (many u) _ (made-well z) _ (firsts-in-slots _ _ _ (h .before .first-frames .ensures)) (sym (h .judge-firsts .ensures) ∙ c .before .enum-told .given .1)
+    ∙ entries-decide _ _ (many u) _ (made-well z) _ (firsts-in-slots _ _ _ (h .before .first-frames .ensures ∙ firsts-there _ _ (omega arith) (made-well z))) (sym (h .judge-firsts .ensures) ∙ c .before .enum-told .given .1)
     ∙ used u
 
 returns-3 : tie.Need-returns-3
@@ -85,7 +85,7 @@ returns-3 c =
     let h = c .before .before .before in
     let z = h .before .before .before in
     let u = z .before .before in
-    firsts-decide _ _ (many u) _ (made-well z) _ (firsts-in-slots _ _ _ (h .before .first-frames .ensures)) _ (sym (h .judge-firsts .ensures) ∙ c .before .i .given .1) ∙ used u
+    firsts-decide _ _ (many u) _ (made-well z) _ (firsts-in-slots _ _ _ (h .before .first-frames .ensures ∙ firsts-there _ _ (omega arith) (made-well z))) _ (sym (h .judge-firsts .ensures) ∙ c .before .i .given .1) ∙ used u
 
 returns-4 : tie.Need-returns-4
 returns-4 c = let h = c .before .before in absurd (never-malformed _ (sym (h .judge-firsts .ensures) ∙ c .enum-told2 .given .1))

@@ -1,4 +1,4 @@
--- `write_list` keeps what `WriteList` says: `Forwarded.antt`'s walk.
+-- `write_list` keeps what `WriteList` says: `ForwardedTold.antt`'s walk.
 use mathlib.Core.Path.{refl}
 use mir.Syntax.{w8, tyInt}
 use contract.Running.{givenOf, tables, tablesOf}
@@ -8,7 +8,7 @@ use denote.Triple.Table.{entered, cited}
 use Rattle.lists.specs.Faces.{list-written, list-left}
 use Rattle.lists.proofs.Records.{written-value}
 use Rattle.signed.specs.Calls.{WriteList}
-use Rattle.signed.proofs.Forwarded.{list-meets}
+use Rattle.signed.proofs.ForwardedTold.{told-meets}
 use Rattle.lists.proofs.write_list as entry
 use Rattle.lists.proofs.write_list.Symbol as entry-def
 use Rattle.lists.proofs.write_list.Symbol.{name as #entry}
@@ -23,6 +23,6 @@ unfolding code.routine tablesOf
 write-list-spec 𝓤 H 𝓜 𝓖 𝓡 =
     entered 𝓤 H (tripleOf 𝓤 H (𝓖 .A) forwards.signature (forwards.spec 𝓤 H (𝓖 .A) (𝓜 .mem) (𝓡 .run)))
     (tables 𝓤 H 𝓜 𝓡 code.env .C) (tables 𝓤 H 𝓜 𝓡 code.env .Λ) #forwards code.function (code.unfolded 𝓤 H 𝓜 𝓡)
-    (list-meets u8 (tyInt w8) written-value list-written list-left WriteList (λ policy list memory. record { answers = refl; leaves = refl })
+    (told-meets u8 (tyInt w8) written-value list-written list-left WriteList (λ version policy list memory. record { answers = refl; leaves = refl })
     𝓤 H (𝓖 .A) (givenOf 𝓤 H 𝓜 𝓖) #entry (tablesOf 𝓤 H 𝓜 (tables 𝓤 H 𝓜 𝓡 code.env))
     (cited 𝓤 H (tripleOf 𝓤 H (𝓖 .A) entry.signature (entry.spec 𝓤 H (𝓖 .A) (𝓜 .mem) (𝓡 .run))) 𝓜 𝓡 code.env #entry entry-def.routine code.calls-lists·write-list (entry-thm.met 𝓤 H 𝓜 𝓖 𝓡)))

@@ -1,4 +1,4 @@
--- `burrbeech_write_list` keeps what `WriteListC` says: `Forwarded.antt`'s walk.
+-- `burrbeech_write_list` keeps what `WriteListC` says: `ForwardedTold.antt`'s walk.
 use mathlib.Core.Path.{refl}
 use mir.Syntax.{w8, tyInt}
 use contract.Running.{givenOf, tables, tablesOf}
@@ -9,7 +9,7 @@ use Rattle.lists.specs.Faces.{list-written, list-left}
 use Rattle.workbench.specs.Numbers.{written-number}
 use Rattle.lists.proofs.Records.{number-value}
 use Rattle.signed.specs.Calls.{WriteListC}
-use Rattle.signed.proofs.Forwarded.{list-meets}
+use Rattle.signed.proofs.ForwardedTold.{told-meets}
 use Rattle.workbench.proofs.burrbeech_write_list as entry
 use Rattle.workbench.proofs.burrbeech_write_list.Symbol as entry-def
 use Rattle.workbench.proofs.burrbeech_write_list.Symbol.{name as #entry}
@@ -24,6 +24,6 @@ unfolding code.routine tablesOf
 write-list-from-c-spec 𝓤 H 𝓜 𝓖 𝓡 =
     entered 𝓤 H (tripleOf 𝓤 H (𝓖 .A) forwards.signature (forwards.spec 𝓤 H (𝓖 .A) (𝓜 .mem) (𝓡 .run)))
     (tables 𝓤 H 𝓜 𝓡 code.env .C) (tables 𝓤 H 𝓜 𝓡 code.env .Λ) #forwards code.function (code.unfolded 𝓤 H 𝓜 𝓡)
-    (list-meets u8 (tyInt w8) number-value (λ policy list memory. written-number (list-written policy list memory)) list-left WriteListC (λ policy list memory. record { answers = refl; leaves = refl })
+    (told-meets u8 (tyInt w8) number-value (λ version policy list memory. written-number (list-written version policy list memory)) list-left WriteListC (λ version policy list memory. record { answers = refl; leaves = refl })
     𝓤 H (𝓖 .A) (givenOf 𝓤 H 𝓜 𝓖) #entry (tablesOf 𝓤 H 𝓜 (tables 𝓤 H 𝓜 𝓡 code.env))
     (cited 𝓤 H (tripleOf 𝓤 H (𝓖 .A) entry.signature (entry.spec 𝓤 H (𝓖 .A) (𝓜 .mem) (𝓡 .run))) 𝓜 𝓡 code.env #entry entry-def.routine code.calls-workbench·burrbeech-write-list (entry-thm.met 𝓤 H 𝓜 𝓖 𝓡)))

@@ -1,4 +1,4 @@
--- `burrbeech_write_list` meets its contract: `Numbered.antt`'s walk, at `write_list` and `written_number`.
+-- `burrbeech_write_list` meets its contract: `NumberedTold.antt`'s walk, at `write_list` and `written_number`.
 use mir.Syntax.{w8, tyInt}
 use contract.Running.{givenOf, tables, tablesOf}
 use denote.Builtin.{u8}
@@ -7,7 +7,7 @@ use denote.Triple.Table.{entered, cited}
 use Rattle.workbench.specs.Numbers.{written-number}
 use Rattle.lists.specs.Faces.{list-written, list-left}
 use Rattle.workbench.proofs.Small.{written-small}
-use Rattle.workbench.proofs.Numbered.{meets}
+use Rattle.workbench.proofs.NumberedTold.{meets}
 use Rattle.lists.proofs.Records.{written-value}
 use Rattle.lists.proofs.write_list as write-list
 use Rattle.lists.proofs.write_list.Symbol as write-list-def

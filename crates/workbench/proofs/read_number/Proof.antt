@@ -15,6 +15,9 @@ cast-result c = search needs
 cast-result-2 : tie.Need-cast-result-2
 cast-result-2 c = search needs
 
+cast-result-3 : tie.Need-cast-result-3
+cast-result-3 c = search needs
+
 mul-result : tie.Need-mul-result
 mul-result c = search needs
 
@@ -23,6 +26,12 @@ add-result c = search needs
 
 mul-result-2 : tie.Need-mul-result-2
 mul-result-2 c = search needs
+
+add-result-2 : tie.Need-add-result-2
+add-result-2 c = search needs
+
+mul-result-3 : tie.Need-mul-result-3
+mul-result-3 c = search needs
 
 enum-known-read-2 : tie.Need-enum-known-read-2
 enum-known-read-2 c = search needs
@@ -43,9 +52,12 @@ read-number-spec =
     enum-known-read
     cast-result
     cast-result-2
+    cast-result-3
     mul-result
     add-result
     mul-result-2
+    add-result-2
+    mul-result-3
     enum-known-read-2
     refused-number-requires
     returns

@@ -26,8 +26,8 @@ returns c =
     let p = c .before .before in
     let w = p .before .before .before .before in
     let a = w .before .before in
-    header-placed _ _ _ (w .header-widths .ensures)
-    (row-placed (now (a .args .bytes)) _ _ _ (header-can _ _ _ _ (w .header-widths .ensures) (a .pre .0) (a .pre .1) (a .pre .2)) (p .append-row .ensures))
+    header-placed _ _ _ _ (w .header-widths .ensures)
+    (row-placed (now (a .args .bytes)) _ _ _ (header-can _ _ _ _ _ (w .header-widths .ensures) (a .pre .0) (a .pre .1) (a .pre .2) (a .pre .3)) (p .append-row .ensures))
 
 pub put-header-spec : {M : Type 1} → statement M
 put-header-spec =

@@ -17,12 +17,15 @@ long c = search (needs, mapped-length)
 put-header-requires : tie.Need-put-header-requires
 put-header-requires c κs =
     let a = c .before .before in
-    (policy-in _ (a .pre .0) (long a), tasks-in _ (a .pre .0) (long a), header-room _ (a .pre .0) (long a) (now (a .args .bytes)) (a .pre .1))
+    (a .pre .0, policy-in _ (a .pre .1) (long a), tasks-in _ (a .pre .1) (long a), header-room _ _ (a .pre .1) (long a) (now (a .args .bytes)) (a .pre .2))
+
+own-deadlines-requires : tie.Need-own-deadlines-requires
+own-deadlines-requires c κs = search needs
 
 put-tasks-requires : tie.Need-put-tasks-requires
 put-tasks-requires c κs =
-    let a = c .before .before .before .before .before .before in
-    (a .pre .0, records-room _ (a .pre .0) (long a) (now (a .args .bytes)) (a .pre .1) (c .before .before .before .put-header .ensures))
+    let a = c .before .before .before .before .before .before .before in
+    (a .pre .1, rw (c .own-deadlines .ensures) (records-room (a .args .version) _ (a .pre .1) (long a) (now (a .args .bytes)) (a .pre .2) (c .before .before .before .before .put-header .ensures)))
 
 close-requires : tie.Need-close-requires
 close-requires c κs = search needs
@@ -32,12 +35,10 @@ same-length c = search needs
 
 returns : tie.Need-returns
 returns c =
-    let k = c .before .before in
-    let q = k .before .before .before .before in
-    let p = q .before .before .before .before in
-    let a = p .before .before .before in
-    whole _ (a .pre .0) (long a) (now (a .args .bytes)) (a .pre .1) (p .put-header .ensures) (q .put-tasks .ensures) (k .close .ensures .1)
+    let a = c .before .before .before .before .before .before .before .before .before .before .before .before .before .before in
+    let placed = rw (c .before .before .before .before .before .before .before .own-deadlines .ensures) at (c .before .before .before .before .before .before .put-tasks .ensures) in
+    whole (a .args .version) _ (a .pre .1) (long a) (now (a .args .bytes)) (a .pre .2) (c .before .before .before .before .before .before .before .before .before .before .before .put-header .ensures) placed (c .before .before .close .ensures .1)
 
 pub put-sheet-spec : {M : Type 1} → statement M
 put-sheet-spec =
-    tie.close (tie.spec put-header-requires put-tasks-requires close-requires same-length returns)
+    tie.close (tie.spec put-header-requires own-deadlines-requires put-tasks-requires close-requires same-length returns)

@@ -12,20 +12,20 @@ use Rattle.writer.proofs.put_tasks.Statement.{statement}
 use Rattle.writer.proofs.put_tasks.Tie as tie
 
 abbrev Inv-loop : tie.InvT-loop
-Inv-loop bytes₀ at set count next₀ i₀ bytes next i = Stand bytes₀ at set i bytes next
+Inv-loop bytes₀ at own set count next₀ i₀ bytes next i = Stand own bytes₀ at set i bytes next
 
 abbrev μ-loop : tie.MeasureT-loop
-μ-loop bytes₀ at set count next₀ i₀ bytes next i = set .«task_count» - i
+μ-loop bytes₀ at own set count next₀ i₀ bytes next i = set .«task_count» - i
 
 -- the array of a set's records has its sixteen slots
-long : (c : tie.Start Inv-loop μ-loop) → length (c .args .t3 .tasks) ≡ most-tasks
+long : (c : tie.Start Inv-loop μ-loop) → length (c .args .t4 .tasks) ≡ most-tasks
 long c = search (needs, mapped-length)
 
 cast-count : tie.Need-cast-count Inv-loop μ-loop
 cast-count c = search needs
 
 loop-holds : tie.Need-loop-holds Inv-loop μ-loop
-loop-holds c = stand-none _ _ _
+loop-holds c = stand-none _ _ _ _
 
 mul-task : tie.Need-mul-task Inv-loop μ-loop
 mul-task c = omega (arith, tasks-in _ (c .before .before .before .pre .0) (long (c .before .before .before)))
@@ -39,7 +39,7 @@ put-task-requires c κs =
     let p = c .before .before .before .loop .inv in
     let l = c .before .before .loop-test .taken in
     let r = puttable-at _ (a .pre .0) (long a) _ _ l in
-    (r .few, r .ranged, stand-space _ (a .pre .0) (long a) _ _ (a .pre .1) p _ l)
+    (r .some, r .few, r .ranged, stand-space _ (a .pre .0) (long a) _ _ _ (a .pre .1) p _ l)
 
 add-i : tie.Need-add-i Inv-loop μ-loop
 add-i c = omega (arith, tasks-in _ (c .before .before .before .before .before .before .before .before .pre .0) (long (c .before .before .before .before .before .before .before .before)))
@@ -52,7 +52,7 @@ loop-again c =
     let a = c .before .before .before .before .before .before .before .before in
     let p = c .before .before .before .before .before .before .loop .inv in
     let l = c .before .before .before .before .before .loop-test .taken in
-    stand-more _ (a .pre .0) (long a) _ _ (a .pre .1) p _ l (c .before .before .put-task .kept .0) (c .before .before .put-task .ensures)
+    stand-more _ (a .pre .0) (long a) _ _ _ (a .pre .1) p _ l (c .before .before .put-task .kept .0) (c .before .before .put-task .ensures)
 
 same-length : tie.Need-same-length Inv-loop μ-loop
 same-length c = c .before .loop .inv .same

@@ -1,19 +1,22 @@
--- `write_sheet` meets its contract: the first refusal, or the sheet and behind it what stood there.
-use mathlib.Core.List.{List, _++_}
-use mathlib.Core.Path.{_≡_, sym, ap, ap₂, _∙_}
-use Prim.Native.Nat.{ℕ}
-use lib.ListN.{drop}
-use lib.Seq.{length-take-le}
-use denote.Ref.{now}
-use Rattle.lent.specs.Lent.{laid}
+-- `write_sheet` meets its contract.
+use mathlib.Core.Bool.{true}
+use mathlib.Core.Path.{_≡_, sym, _∙_}
+use borrow.Author.Tests.{not-true, not-false}
+use Rattle.sheet.specs.Constants.{version-1, version-2}
 use Rattle.sheet.specs.Admission.{admission}
+use Rattle.sheet.specs.Reading.{version-among}
 use Rattle.sheet.specs.declared.Answer.the-variants.{Admitted}
+use Rattle.writer.proofs.Outcomes.{version-wrong, refused, not-held}
 use Rattle.admission.proofs.Answers.{judged-tells}
-use Rattle.sheet.specs.declared.Written.the-variants.{Bytes}
-use Rattle.writer.proofs.Outcomes.{refused, no-room, done}
 use borrow.Author.Needs.{needs}
 use Rattle.writer.proofs.write_sheet.Statement.{statement}
 use Rattle.writer.proofs.write_sheet.Tie as tie
+
+version-among-requires : tie.Need-version-among-requires
+version-among-requires c κs = search needs
+
+returns : tie.Need-returns
+returns c = version-wrong _ _ _ (sym (c .before .version-among .ensures) ∙ not-true _ (c .if1 .taken))
 
 admit-requires : tie.Need-admit-requires
 admit-requires c κs = search needs
@@ -21,54 +24,47 @@ admit-requires c κs = search needs
 enum-known-answer : tie.Need-enum-known-answer
 enum-known-answer c = search needs
 
-returns : tie.Need-returns
-returns c = refused _ _ _ (judged-tells _ _ _ _ (c .before .before .before .admit .ensures) (c .before .answer .given .1))
+returns-2 : tie.Need-returns-2
+returns-2 c =
+    refused _ _ _ (sym (c .before .before .before .before .before .version-among .ensures) ∙ not-false _ (c .before .before .before .before .if1 .left)) _ (judged-tells _ _ _ _ (c .before .before .before .admit .ensures) (c .before .answer .given .1))
 
 enum-told : tie.Need-enum-told
 enum-told c = search needs
 
--- behind the refusal the set is admitted
-set-admitted : (c : tie.After-enum-told) → admission (c .before .before .before .before .args .set) ≡ Admitted
+-- what the tests before showed: the version is known, the set is admitted
+known : (c : tie.Else1) → version-among version-1 version-2 (c .before .before .before .args .version) ≡ true
+known c = sym (c .before .version-among .ensures) ∙ not-false _ (c .if1 .left)
+
+set-admitted : (c : tie.After-enum-told) → admission (c .before .before .before .before .before .before .args .set) ≡ Admitted
 set-admitted c = judged-tells _ _ _ _ (c .before .before .admit .ensures) (c .enum-told .given .1)
 
-sheet-size-requires : tie.Need-sheet-size-requires
-sheet-size-requires c κs = set-admitted c
+held-requires : tie.Need-held-requires
+held-requires c κs = set-admitted c
 
-returns-2 : tie.Need-returns-2
-returns-2 c = no-room _ _ (set-admitted (c .before .before)) (rw (← c .before .sheet-size .ensures) (c .if1 .taken))
+returns-3 : tie.Need-returns-3
+returns-3 c = not-held _ _ _ (known (c .before .before .before .before .before)) (set-admitted (c .before .before)) (sym (c .before .held .ensures) ∙ not-true _ (c .if2 .taken))
 
-slice-relend-prefix-put-sheet : tie.Need-slice-relend-prefix-put-sheet
-slice-relend-prefix-put-sheet c = search needs
-
-slice-aggregate-put-sheet : tie.Need-slice-aggregate-put-sheet
-slice-aggregate-put-sheet c = sym (length-take-le _ (c .before .before .before .before .before .before .before .args .bytes .now) (c .before .if1 .left))
-
-put-sheet-requires : tie.Need-put-sheet-requires
-put-sheet-requires c κs = (set-admitted (c .before .before .before), length-take-le _ (c .before .before .before .before .before .before .before .args .bytes .now) (c .before .if1 .left) ∙ c .before .before .sheet-size .ensures)
+write-admitted-requires : tie.Need-write-admitted-requires
+write-admitted-requires c κs = (known (c .before .before .before .before .before .before), set-admitted (c .before .before .before), sym (c .before .before .held .ensures) ∙ not-false _ (c .before .if2 .left))
 
 same-length : tie.Need-same-length
 same-length c = search needs
 
-returns-3 : tie.Need-returns-3
-unfolding laid
-returns-3 c =
-    let z = c .before .before .before .before .before in
-    let a = z .before .before .before .before .before in
-    let d = done (a .args .set) (now (a .args .bytes)) (set-admitted (z .before)) (rw (← z .sheet-size .ensures) (c .before .before .before .before .if1 .left)) in
-    (ap Bytes (z .sheet-size .ensures) ∙ d .0, ap₂ (λ (l : List ℕ) (n : ℕ). l ++ drop n (now (a .args .bytes))) (c .before .before .put-sheet .ensures) (z .sheet-size .ensures) ∙ d .1)
+returns-4 : tie.Need-returns-4
+returns-4 c = search needs
 
 pub write-sheet-spec : {M : Type 1} → statement M
 write-sheet-spec =
     tie.close
     (tie.spec
+    version-among-requires
+    returns
     admit-requires
     enum-known-answer
-    returns
-    enum-told
-    sheet-size-requires
     returns-2
-    slice-relend-prefix-put-sheet
-    slice-aggregate-put-sheet
-    put-sheet-requires
+    enum-told
+    held-requires
+    returns-3
+    write-admitted-requires
     same-length
-    returns-3)
+    returns-4)

@@ -67,7 +67,7 @@ blocking-requires : tie.Need-blocking-requires Inv-loop μ-loop
 blocking-requires c κs = search needs
 
 finding-of-requires : tie.Need-finding-of-requires Inv-loop μ-loop
-finding-of-requires c κs = let h = at-place (c .before .before .before .before) in (omega (arith, h .in-room), h .tallies, h .formed, h .shape-is)
+finding-of-requires c κs = let h = at-place (c .before .before .before .before) in (omega (arith, h .in-room), h .tallies, h .formed)
 
 mul-findings : tie.Need-mul-findings Inv-loop μ-loop
 mul-findings c = search needs

@@ -1,16 +1,19 @@
 -- `first_of` meets its contract: the places before place p are looked at, and each of their tasks passes.
-use mathlib.Core.Path.{_≡_, sym, ap, _∙_}
-use Prim.Native.Nat.{_-_}
+use mathlib.Core.Bool.{true, false}
+use mathlib.Core.Path.{_≡_, ap, _∙_}
+use Prim.Native.Nat.{_-_, _≤_, _<_}
 use native.Mathlib.Omega.{arith}
-use borrow.Author.Tests.{not-true, not-false}
 use lib.ListN.{length}
 use Rattle.theory.specs.Analysis.{lower, blocking, passes}
 use Rattle.sheet.specs.Constants.{most-tasks}
+use Rattle.sheet.specs.Tasks.{task-in}
 use Rattle.sheet.proofs.Records.{mapped-length}
 use Rattle.order.specs.Ordered.{tasks-in-order, blocking-at}
+use Rattle.analysis.specs.Misses.{first-without}
+use Rattle.analysis.specs.Inside.Steps.{without-to}
 use Rattle.analysis.specs.declared.Miss.the-variants.{Frame}
-use Rattle.analysis.proofs.Growing.{Walk, walk-starts, Here, here, walk-on}
-use Rattle.analysis.proofs.MissedFrame.{passes-at, without-at, no-miss, frame-missed}
+use Rattle.analysis.proofs.Growing.{Walk, walk-starts, record-at, Here, here, walk-on}
+use Rattle.analysis.proofs.MissedFrame.{without-at, passes-at, no-miss, frame-missed}
 use Rattle.analysis.proofs.Passed.{Passed, none-passed, one-passed}
 use borrow.Author.Needs.{needs}
 use Rattle.analysis.proofs.misses.first_of.Statement.{statement}
@@ -69,36 +72,48 @@ cast-blocking c = search needs
 blocking-requires : tie.Need-blocking-requires Inv-loop μ-loop
 blocking-requires c κs = search needs
 
-passes-requires : tie.Need-passes-requires Inv-loop μ-loop
-passes-requires c κs = let h = at-place (c .before .before .before .before) in (omega (arith, h .in-room), h .tallies, h .formed, h .shape-is)
+frame-without-requires : tie.Need-frame-without-requires Inv-loop μ-loop
+frame-without-requires c κs = let h = at-place (c .before .before .before .before) in (omega (arith, h .in-room), h .tallies, h .formed)
 
--- the blocking is that of the place, and so is what `passes` says
-module _ (c : tie.After-passes Inv-loop μ-loop) where
+cast-if1 : tie.Need-cast-if1 Inv-loop μ-loop
+cast-if1 c = search needs
+
+frame-count-requires : tie.Need-frame-count-requires Inv-loop μ-loop
+frame-count-requires c κs = search needs
+
+-- what `frame_without` answers is of the task at the place
+module _ (c : tie.After-frame-count Inv-loop μ-loop) where
   abbrev turn : tie.In-loop Inv-loop μ-loop
-  turn = c .before .before .before .before .before
+  turn = c .before .before .before .before .before .before
 
   abbrev h : Here (start turn .args .o) (start turn .args .t2) (turn .before .loop .above) (turn .before .loop .p)
   h = at-place turn
 
-  blocked-is : c .before .before .blocking .result ≡ blocking (lower (tasks-in-order (start turn .args .o)) (turn .before .loop .p))
+  blocked-is : c .before .before .before .blocking .result ≡ blocking (lower (tasks-in-order (start turn .args .o)) (turn .before .loop .p))
   unfolding blocking-at
-  blocked-is = c .before .before .blocking .ensures
+  blocked-is = c .before .before .before .blocking .ensures
 
-  passes-is : c .passes .result ≡ passes (tasks-in-order (start turn .args .o)) (turn .before .loop .p)
-  passes-is = c .passes .ensures (h .tallies) ∙ passes-at _ _ _ _ _ (h .tallies-are) blocked-is (h .task-is) (rw (← h .task-is) (h .formed .has-frame))
+  without-is : c .before .frame-without .result ≡ without-to (h .tallies .tasks) (c .before .before .before .blocking .result) (task-in (record-at (start turn .args .o) (turn .before .loop .p)))
+  without-is = c .before .frame-without .ensures (h .tallies)
+
+  misses : c .before .frame-without .result < c .frame-count .result
+      → (passes (tasks-in-order (start turn .args .o)) (turn .before .loop .p) ≡ false)
+      × (c .before .frame-without .result ≡ first-without (tasks-in-order (start turn .args .o)) (turn .before .loop .p))
+  misses l =
+      let (fails, is) = without-at _ _ _ _ _ (h .tallies-are) blocked-is (h .task-is) (omega (arith, without-is, c .frame-count .ensures)) in
+      (fails, without-is ∙ is)
+
+  passes-here : c .frame-count .result ≤ c .before .frame-without .result → passes (tasks-in-order (start turn .args .o)) (turn .before .loop .p) ≡ true
+  passes-here n = passes-at _ _ _ _ _ (h .tallies-are) blocked-is (h .task-is) (omega (arith, without-is, c .frame-count .ensures))
 
 cast-t30 : tie.Need-cast-t30 Inv-loop μ-loop
 cast-t30 c = search needs
 
-frame-without-requires : tie.Need-frame-without-requires Inv-loop μ-loop
-frame-without-requires c κs = let h = at-place (turn (c .before .before)) in (omega (arith, h .in-room), h .tallies, h .formed)
-
 returns : tie.Need-returns Inv-loop μ-loop
 returns c =
-    let s = c .before .before .before in
-    let h = at-place (turn s) in
-    ap (Frame (turn s .before .loop .p)) (c .frame-without .ensures (h .tallies) ∙ without-at _ _ _ _ _ (h .tallies-are) (blocked-is s) (h .task-is))
-    ∙ frame-missed _ _ (turn s .before .loop .inv .1) (h .in-set) (sym (passes-is s) ∙ not-true _ (c .before .before .if1 .taken))
+    let l = turn (c .before) in
+    let (fails, is) = misses (c .before) (c .if1 .taken) in
+    ap (Frame (l .before .loop .p)) is ∙ frame-missed _ _ (l .before .loop .inv .1) (at-place l .in-set) fails
 
 tally-of-requires : tie.Need-tally-of-requires Inv-loop μ-loop
 tally-of-requires c κs = at-place (turn (c .before)) .start-in
@@ -120,7 +135,7 @@ loop-again c =
     let s = c .before .before in
     let l = turn s in (
       walk-on _ _ (start l .pre) _ _ _ (l .before .loop .inv .0) (l .loop-test .taken) _ (c .tally-of .ensures),
-      one-passed _ _ (l .before .loop .inv .1) (sym (passes-is s) ∙ not-false _ (c .before .if1 .left)),
+      one-passed _ _ (l .before .loop .inv .1) (passes-here s (c .before .if1 .left)),
     )
 
 returns-2 : tie.Need-returns-2 Inv-loop μ-loop
@@ -144,9 +159,10 @@ first-of-spec =
     array-copy-out-shape
     cast-blocking
     blocking-requires
-    passes-requires
-    cast-t30
     frame-without-requires
+    cast-if1
+    frame-count-requires
+    cast-t30
     returns
     tally-of-requires
     mul-above

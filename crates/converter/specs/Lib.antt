@@ -1,0 +1,2 @@
+-- What the converter answers and leaves.
+pub mod Converting
