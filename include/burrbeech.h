@@ -16,7 +16,7 @@
  * them, and what an answer does not need of them keeps its content. There is no state, no allocation, no errno and no
  * signal. Any number of threads may be in any of the entries at a time; memory that a call reads nobody may write
  * meanwhile, and memory that it writes nobody may touch. A call is content with BURRBEECH_STACK_MAX bytes of stack.
- * Most calls take microseconds; the costliest sheet found takes a fifth of a second. The time of a play grows
+ * Most calls take microseconds; the costliest sheet found takes a third of a second. The time of a play grows
  * with its ticks and with the bytes of its script.
  *
  * The libraries are for x86-64 and its System V calling convention. */

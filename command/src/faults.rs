@@ -43,7 +43,7 @@ pub fn of_sheet(refusal: Refusal, sheet: &[u8]) -> Result<Fault, Trouble> {
     let found = match (refusal.number, &bits) {
         (1, _) => length(sheet),
         (2, Some(bits)) => check_word(bits, sheet),
-        (3, Some(bits)) => version(bits.version),
+        (3, Some(bits)) => version(bits.version, NO_SHEET),
         (4, Some(bits)) => policy(bits.policy),
         (5, Some(bits)) => spare(bits).or_else(|| fill(bits)),
         (6, Some(bits)) => task_count(bits.task_count as usize),
@@ -66,7 +66,7 @@ fn of_record(refusal: Refusal, task: usize, bits: &SheetBits) -> Option<Fault> {
 pub fn of_list(refusal: Refusal, set: &Set) -> Result<Fault, Trouble> {
     let named = refusal.task.and_then(|task| Some((task, set.tasks.get(task)?)));
     let found = match (refusal.number, named) {
-        (3, _) => version(set.version),
+        (3, _) => version(set.version, "Write one of them, or leave the line out: version 1 is then made where it can hold the set."),
         (4, _) => policy(set.policy),
         (6, _) => task_count(set.tasks.len()),
         (7, Some((number, task))) => frame_count(number, task.frames.len()),
@@ -80,7 +80,7 @@ pub fn of_list(refusal: Refusal, set: &Set) -> Result<Fault, Trouble> {
 /// The fault of a sheet that is not converted to this version.
 pub fn of_conversion(refusal: Refusal, to: u32, sheet: &[u8]) -> Result<Fault, Trouble> {
     let found = match (refusal.number, sheet_bits::read(sheet)) {
-        (3, Some(bits)) => version(bits.version).or_else(|| same_version(bits.version, to)),
+        (3, Some(bits)) => version(bits.version, NO_SHEET).or_else(|| same_version(bits.version, to)),
         (DEADLINES_DIFFER, Some(bits)) => {
             let tasks: Vec<Task> = bits.records.into_iter().map(|record| record.task).collect();
             deadlines(&tasks).filter(|_| to == ONE_DEADLINE)
@@ -130,17 +130,19 @@ fn check_word(bits: &SheetBits, sheet: &[u8]) -> Option<Fault> {
     fault_if(stated != computed, Part::CheckWord, words, advice)
 }
 
+const NO_SHEET: &str = "Look whether this is a task sheet.";
+
 /// 3.
-fn version(version: u32) -> Option<Fault> {
+fn version(version: u32, advice: &'static str) -> Option<Fault> {
     let words = format!("version {version}: only versions {ONE_DEADLINE} and {BY_FRAME} are known");
-    fault_if(Layout::of(version).is_none(), Part::Version, words, "Look whether this is a task sheet.")
+    fault_if(Layout::of(version).is_none(), Part::Version, words, advice)
 }
 
 /// 3 of a conversion: a sheet of the other version is asked for.
 fn same_version(version: u32, to: u32) -> Option<Fault> {
     let other = other_version(to);
     let words = format!("the sheet has version {version}, and version {to} was asked for: a sheet of version {other} is converted to it");
-    fault_if(version == to, Part::Version, words, "The sheet can stay as it is.")
+    fault_if(version == to, Part::Version, words, "There is nothing to convert; `burrbeech check` says whether it is admitted.")
 }
 
 /// 4.

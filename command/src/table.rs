@@ -185,7 +185,9 @@ fn head<'a>(text: &[u8], lines: &mut impl Iterator<Item = (usize, Vec<&'a [u8]>)
 /// What follows `version`; whether there is such a version the library says.
 fn version(words: &[&[u8]]) -> Result<u32, String> {
     match words {
-        [word] => number("version", word),
+        [word] => {
+            digits("version", word)?.ok_or_else(|| format!("version {}: {ONE_DEADLINE} or {BY_FRAME} must follow `version`", quoted(word)))
+        }
         _ => Err(format!("`version` and its number must stand here: {ONE_DEADLINE} or {BY_FRAME}")),
     }
 }
@@ -200,7 +202,9 @@ fn policy(words: &[&[u8]]) -> Result<u32, String> {
             None => Err(format!("there is no policy {}: {allowed} must follow `policy`", quoted(word))),
         },
         [b"refused", ..] => Err("this is what `show` says of a refused sheet: mend it, then delete this line".to_string()),
-        _ => Err(format!("a table starts with `policy` and its name: {allowed}")),
+        _ => Err(format!(
+            "a table starts with `policy` and its name: {allowed}; a line `version` and its number may stand before it or behind it"
+        )),
     }
 }
 

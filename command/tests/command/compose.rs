@@ -152,6 +152,8 @@ fn bad_lines_name_file_line_and_field() {
         (format!("{start}0 5 5 0 010\n"), 3, "frame 0 `010` starts with 0"),
         (format!("{start}0 5 5 0 \u{1b}[2J\n"), 3, "frame 0 `\\u{1b}[2J` is no number"),
         ("version 2\n".to_string(), 2, "the table has no line `policy ...`"),
+        ("Version 2\npolicy 0\n".to_string(), 1, "a line `version` and its number may stand before it or behind it"),
+        ("version 99999999999\npolicy 0\n".to_string(), 1, "version `99999999999`: 1 or 2 must follow `version`"),
         ("version 2 1\npolicy 0\n".to_string(), 1, "`version` and its number must stand here: 1 or 2"),
         ("version 2\npolicy 0\nversion 2\n".to_string(), 3, "the version stands there twice"),
         (format!("{start}0 5 - 0 1/5 1\n"), 3, "frame 1 has no deadline: write it as time/deadline, or write a deadline in the column"),

@@ -55,15 +55,15 @@ fn versions_word_for_word() {
     assert_eq!(
         run(&["convert", "--to", "1", &f]).failed(2),
         format!(
-            "{f}: {first}\nthe sheet has version 1, and version 1 was asked for: a sheet of version 2 is converted to it\nThe sheet can stay \
-             as it is.\n"
+            "{f}: {first}\nthe sheet has version 1, and version 1 was asked for: a sheet of version 2 is converted to it\nThere is nothing \
+             to convert; `burrbeech check` says whether it is admitted.\n"
         )
     );
     assert_eq!(
         run(&["convert", "--to", "2", &o]).failed(2),
         format!(
-            "{o}: {first}\nthe sheet has version 2, and version 2 was asked for: a sheet of version 1 is converted to it\nThe sheet can stay \
-             as it is.\n"
+            "{o}: {first}\nthe sheet has version 2, and version 2 was asked for: a sheet of version 1 is converted to it\nThere is nothing \
+             to convert; `burrbeech check` says whether it is admitted.\n"
         )
     );
     let mut seven = std::fs::read(&f).unwrap();

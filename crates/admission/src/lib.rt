@@ -216,7 +216,7 @@ fn frames_between(
     true
 }
 
-// Whether a task is in range and well formed. A frame time that is at most its deadline, and that at most a period in range, are in range above.
+// Whether a task is in range and well formed. Frame times and deadlines need no limit of their own above: they are at most the period, which has one.
 fn well_formed(task: Task) -> bool
     ensures { λ r. ⌜ r ≡ (in-range (task-in task) && well-formed (task-in task)) ⌝ }
 {

@@ -1,1 +1,1 @@
-// No code: cases A to M as a table in specs/, and the statement over it in proofs/.
+// No code: cases A to O as a table in specs/, and the statement over it in proofs/.

@@ -1,10 +1,9 @@
 -- What a conversion carries: the same policy and tasks in the other version, so that there and back gives the same bytes.
 use mathlib.Core.Bool.{true, not, _||_}
 use mathlib.Core.List.{List}
-use mathlib.Core.Path.{_≡_, refl, sym, ap, ap₂, _∙_}
+use mathlib.Core.Path.{_≡_, sym, ap, ap₂, _∙_}
 use Prim.Native.Nat.{ℕ}
 use Rattle.bits.specs.Packed.{Bytes as IsBytes}
-use Rattle.theory.specs.Tasks.{Task}
 use Rattle.lent.proofs.Checks.{passed, passed-over}
 use Rattle.sheet.specs.Constants.{version-1, version-2}
 use Rattle.sheet.specs.Fields.{own-deadlines}
@@ -58,7 +57,3 @@ module _ (s : List ℕ) (a : reading s .answer ≡ Admitted) (version : ℕ) (kn
   pub there-and-back : IsBytes s → conversion (version-of s) (conversion version s) ≡ s
   unfolding conversion
   there-and-back h = ap₂ (sheet-of (version-of s)) (conversion-carries .1) (conversion-carries .2) ∙ read-then-write s h a
-
--- To version 2 always: every set can be held.
-pub to-2-always : (ts : List Task) → (own-deadlines version-2 || one-deadline-each ts) ≡ true
-to-2-always ts = refl

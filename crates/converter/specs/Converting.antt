@@ -12,7 +12,7 @@ use Rattle.sheet.specs.declared.Refusal.the-variants.{Room}
 use Rattle.sheet.specs.declared.Written.{Written}
 use Rattle.sheet.specs.declared.Written.the-variants.{Bytes, TurnedAway}
 
--- the version that a converter to this one takes
+-- the version that a converter to this one takes, of 1 and 2; every other gets 3 before
 abbrev pub other-version : ℕ → ℕ
 other-version version = version-1 + version-2 - version
 

@@ -16,7 +16,7 @@ fn other_version(version: u32) -> u32
     Sheet::VERSION_1 + Sheet::VERSION_2 - version
 }
 
-// The sheet in this version goes into the first of the lent bytes; the answer is how many, or the one refusal, and then nothing is touched.
+// The sheet in the version told goes into the first of the lent bytes; the answer is how many, or the one refusal, and then nothing is touched.
 pub fn convert(version: u32, sheet: &[u8], out: &mut [u8]) -> Written
     ensures { λ r. ⌜ (r ≡ converted version (now (sheet .entry)) (now (out .entry))) × (now (out .exit) ≡ converted-left version (now (sheet .entry)) (now (out .entry))) ⌝ }
 {

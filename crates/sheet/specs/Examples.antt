@@ -20,7 +20,7 @@ use Rattle.sheet.specs.Reading.{layout-checks, checks-among, version-of,
 use Rattle.sheet.specs.Writing.{header-bits, fixed-numbers, by-turns, frame-numbers, task-bits, tasks-bits, sheet-of, one-deadline, one-deadline-each, version-check, deadlines-check, writing-checks}
 use Rattle.sheet.specs.declared.Answer.{Answer}
 use Rattle.sheet.specs.declared.Answer.the-variants.{Admitted, Refused}
-use Rattle.sheet.specs.declared.Refusal.the-variants.{FrameCount, NotMonotonic, Deadlines}
+use Rattle.sheet.specs.declared.Refusal.the-variants.{Version, FrameCount, NotMonotonic, Deadlines}
 
 -- one deadline for all frames
 abbrev pub with-one : (T D Q : ℕ) → List ℕ → Task
@@ -90,7 +90,7 @@ reading-of-largest = refl
 abbrev two-deadlines : List Task
 two-deadlines = record { period = 10; lock = 1; frames = 2 ∷ 1 ∷ []; deadlines = 9 ∷ 4 ∷ [] } ∷ []
 
--- version 2: the header, T, Q, the count, then time and deadline by turns, three fill bits
+-- version 2: the header, T, Q, the count, then time and deadline by turns (on the sheet four fill bits follow)
 pub bits-of-two :
     header-bits 2 0 1 ++ tasks-bits true two-deadlines
     ≡ digits 4 2 ++ digits 2 0 ++ digits 5 1 ++ digits 5 0 ++ digits 20 10 ++ digits 20 1 ++ digits 4 2
@@ -102,10 +102,15 @@ pub reading-of-two : reading (sheet-of 2 0 two-deadlines) ≡ record { answer = 
 unfolding sheets
 reading-of-two = refl
 
--- version 1 has the first deadline for both, so that it must not be told to hold them
+-- version 1 has room for one deadline of a task, so that it cannot hold these two
 pub not-held-by-1 : one-deadline-each two-deadlines ≡ false
 unfolding sheets
 not-held-by-1 = refl
+
+-- 3 of a version that is neither comes before all else, here before 4 and 6
+pub three-first : decided (writing-checks 3 3 0 []) ≡ Refused Version
+unfolding sheets lists
+three-first = refl
 
 -- 17, and 11 before it: frames that grow have no start
 pub seventeen-of-two : decided (writing-checks 1 0 1 (map record-of two-deadlines)) ≡ Refused Deadlines

@@ -33,7 +33,7 @@ abbrev pub fixed-widths : Bool → List ℕ
 fixed-widths false = time-width ∷ time-width ∷ time-width ∷ frame-count-width ∷ []
 fixed-widths true = time-width ∷ time-width ∷ frame-count-width ∷ []
 
--- where each of them stands in the fixed part
+-- where each of them stands in the fixed part; the deadline only where `own` is false
 abbrev pub period-field : ℕ
 period-field = 0
 

@@ -103,7 +103,7 @@ impl Sheet {
 
     pub const SPARE_FIELD: usize = 3;
 
-    // And in the fixed part of a task, where they stand at the same place in both forms; the deadline is only in that of version 1.
+    // And in the fixed part of a task: the period in both forms, the deadline in that of version 1, which alone has one.
     pub const PERIOD_FIELD: usize = 0;
 
     pub const DEADLINE_FIELD: usize = 1;

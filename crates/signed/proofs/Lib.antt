@@ -12,6 +12,7 @@ pub mod Words
 pub mod Report
 pub mod Signed
 pub mod Read
+pub mod Converting
 pub mod Conversions
 pub mod Played
 pub mod Plays

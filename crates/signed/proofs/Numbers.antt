@@ -80,31 +80,36 @@ refusal-back (NotMonotonic i why) = refl
 refusal-back Room = refl
 refusal-back Deadlines = refl
 
--- a refusal of a sheet or of tasks that are analysed, or for want of room: 17 is of what is written
-abbrev pub Twelve : Refusal → Type 0
-Twelve r = number-of r ≤ 12
+-- a refusal whose number is at most m
+abbrev pub Up : ℕ → Refusal → Type 0
+Up m r = number-of r ≤ m
 
-pub twelve : (tasks : List Task) → Covers Twelve tasks
-twelve tasks =
+-- those of a sheet and of tasks are 1 to 11
+pub numbered : (m : ℕ) → 11 ≤ m → (tasks : List Task) → Covers (Up m) tasks
+numbered m h tasks =
     record {
-      of-length = lit≤ tt;
-      of-check-word = lit≤ tt;
-      of-version = lit≤ tt;
-      of-policy = lit≤ tt;
-      of-bit-set = lit≤ tt;
-      of-task-count = lit≤ tt;
-      of-records = lit≤ tt;
-      of-frame-count = λ i h. lit≤ tt;
-      of-form = λ i h. lit≤ tt;
-      of-lock = λ i h. lit≤ tt;
-      of-monotony = λ i h few none-starts. lit≤ tt;
+      of-length = omega arith;
+      of-check-word = omega arith;
+      of-version = omega arith;
+      of-policy = omega arith;
+      of-bit-set = omega arith;
+      of-task-count = omega arith;
+      of-records = omega arith;
+      of-frame-count = λ i l. omega arith;
+      of-form = λ i l. omega arith;
+      of-lock = λ i l. omega arith;
+      of-monotony = λ i l few none-starts. omega arith;
     }
 
+-- beside them 12 for want of room, where nothing is written
+abbrev pub Twelve : Refusal → Type 0
+Twelve = Up 12
+
 pub sheet-twelve : (s : List ℕ) → Each Twelve (sheet-checks s)
-sheet-twelve s = sheet-each s (twelve (tasks-of s))
+sheet-twelve s = sheet-each s (numbered 12 (lit≤ tt) (tasks-of s))
 
 pub list-twelve : (policy n : ℕ) (rs : List Record) → Each Twelve (list-checks policy n rs)
-list-twelve policy n rs = list-each policy n rs (twelve (map task-in rs))
+list-twelve policy n rs = list-each policy n rs (numbered 12 (lit≤ tt) (map task-in rs))
 
 -- ---- the blocker
 

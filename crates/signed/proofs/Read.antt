@@ -2,9 +2,10 @@
 use mathlib.Core.List.{List}
 use mathlib.Core.Logic.{_↔_}
 use mathlib.Core.Option.{none, some}
-use mathlib.Core.Path.{_≡_, refl, sym, ap, _∙_}
+use mathlib.Core.Path.{_≡_, sym, ap, _∙_}
 use Prim.Native.Nat.{ℕ}
 use native.Mathlib.Omega.{arith}
+use lib.Dec.{lit≤}
 use lib.ListN.{length, drop}
 use lib.Seq.{drop-at}
 use Rattle.lent.specs.Checks.{first-refusal}
@@ -16,7 +17,8 @@ use Rattle.sheet.specs.declared.Refusal.{Refusal}
 use Rattle.sheet.specs.declared.Refusal.the-variants.{Room}
 use Rattle.sheet.proofs.Checks.{admits, refuses, none-applies, one-applies}
 use Rattle.sheet.proofs.Carried.{reading-answer}
-use Rattle.sheet.proofs.Refused.{Covers, sheet-each}
+use Rattle.sheet.proofs.Refused.{sheet-each}
+use Rattle.signed.proofs.Numbers.{Up, numbered}
 
 module _ (sheet : List ℕ) where
   pub admitted-is : (first-refusal (sheet-checks sheet) ≡ none) ↔ (reading sheet .answer ≡ Admitted)
@@ -28,21 +30,8 @@ module _ (sheet : List ℕ) where
   -- no sheet is refused for want of room
   pub not-for-room : ¬ (first-refusal (sheet-checks sheet) ≡ some Room)
   not-for-room e =
-      let covers : Covers (λ r. ¬ (r ≡ Room)) (tasks-of sheet) =
-      record {
-        of-length = λ q. let z : _≡_ {A = ℕ} 0 1 = cc in omega arith;
-        of-check-word = λ q. let z : _≡_ {A = ℕ} 0 1 = cc in omega arith;
-        of-version = λ q. let z : _≡_ {A = ℕ} 0 1 = cc in omega arith;
-        of-policy = λ q. let z : _≡_ {A = ℕ} 0 1 = cc in omega arith;
-        of-bit-set = λ q. let z : _≡_ {A = ℕ} 0 1 = cc in omega arith;
-        of-task-count = λ q. let z : _≡_ {A = ℕ} 0 1 = cc in omega arith;
-        of-records = λ q. let z : _≡_ {A = ℕ} 0 1 = cc in omega arith;
-        of-frame-count = λ i l q. let z : _≡_ {A = ℕ} 0 1 = cc in omega arith;
-        of-form = λ i l q. let z : _≡_ {A = ℕ} 0 1 = cc in omega arith;
-        of-lock = λ i l q. let z : _≡_ {A = ℕ} 0 1 = cc in omega arith;
-        of-monotony = λ i l few none-starts q. let z : _≡_ {A = ℕ} 0 1 = cc in omega arith;
-      } in
-      each-first (λ r. ¬ (r ≡ Room)) (sheet-checks sheet) (sheet-each sheet covers) Room e refl
+      let own : Up 11 Room = each-first (Up 11) (sheet-checks sheet) (sheet-each sheet (numbered 11 (lit≤ tt) (tasks-of sheet))) Room e in
+      omega (arith, own)
 
 -- what is written stands first, and the bytes behind it are as they were
 pub behind-laid : (written memory : List ℕ) (n : ℕ) → length written ≡ n → drop n (laid written memory) ≡ drop n memory

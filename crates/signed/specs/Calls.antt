@@ -46,7 +46,7 @@ pub record WriteList (version policy : ℕ) (list : List Record) (before : List 
   pub answers : answer ≡ list-written version policy list before
   pub leaves : after ≡ list-left version policy list before
 
--- `convert`: a sheet of the other version to lent bytes, in that version
+-- `convert`: a sheet of the other version, written to lent bytes in the version told
 pub record Convert (version : ℕ) (sheet before : List ℕ) (answer : Written) (after : List ℕ) : Type 0 where
   pub answers : answer ≡ converted version sheet before
   pub leaves : after ≡ converted-left version sheet before
