@@ -6,26 +6,35 @@ use second::generate::{admitted_set, damaged_sheets, edge_set, muddled_sheet, ra
 use second::random::Random;
 use second::refusal::Refusal;
 use second::sheet;
-use std::collections::BTreeSet;
+use std::collections::{BTreeMap, BTreeSet};
 
 /// The task that the refusal names, if its number is one that names a task.
 fn named_task(refusal: Refusal) -> Option<usize> {
     matches!(refusal.number(), 7 | 9 | 10 | 11).then(|| refusal.task())
 }
 
+/// Of each number at most this many sheets, so that none crowds out the rare ones.
+const OF_A_NUMBER: usize = 120;
+
 /// At least 1,000 damaged sheets of both versions, with every number: of each set an even choice that takes every way of damage in turn.
 fn damaged(random: &mut Random) -> Vec<(Vec<u8>, Refusal)> {
-    let mut all: Vec<(Vec<u8>, Refusal)> = Vec::new();
+    let mut all = Vec::new();
+    let mut taken: BTreeMap<u32, usize> = BTreeMap::new();
     for round in 0.. {
-        let numbers: BTreeSet<u32> = all.iter().map(|(_, refusal)| refusal.number()).collect();
-        if all.len() >= 1_000 && numbers.len() == 11 {
+        if all.len() >= 1_000 && taken.len() == 11 {
             break;
         }
         let set = if round % 4 == 0 { edge_set(random) } else { admitted_set(random) };
         let version = version_for(random, &set);
         let sheets = damaged_sheets(random, version, &set);
         let step = sheets.len() / 60 + 1;
-        all.extend(sheets.into_iter().skip(round % step).step_by(step).map(|sheet| (sheet.bytes, sheet.refusal)));
+        for sheet in sheets.into_iter().skip(round % step).step_by(step) {
+            let of_the_number = taken.entry(sheet.refusal.number()).or_default();
+            if *of_the_number < OF_A_NUMBER {
+                *of_the_number += 1;
+                all.push((sheet.bytes, sheet.refusal));
+            }
+        }
     }
     all
 }
