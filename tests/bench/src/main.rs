@@ -21,6 +21,15 @@ fn proved(sheet: &[u8], times: &mut [u8]) -> u32 {
     unsafe { burrbeech_check_sheet(sheet.as_ptr(), sheet.len(), times.as_mut_ptr(), times.len()) }
 }
 
+/// How many turns are taken: one with `--one-turn`.
+fn taken(turns: usize) -> usize {
+    if std::env::args().any(|word| word == "--one-turn") {
+        1
+    } else {
+        turns
+    }
+}
+
 /// Nanoseconds per call, the sheets gone through `rounds` times.
 fn nanoseconds(entry: Entry, sheets: &[Vec<u8>], rounds: usize) -> f64 {
     let mut times = [0; 512];
@@ -43,7 +52,7 @@ fn measure(what: &str, sheets: &[Vec<u8>], rounds: usize, turns: usize) {
         holds += usize::from(answer == 0);
     }
     let mut least = [f64::INFINITY; 2];
-    for _ in 0..turns {
+    for _ in 0..taken(turns) {
         for (least, entry) in least.iter_mut().zip([proved as Entry, analysis::check_sheet]) {
             *least = least.min(nanoseconds(entry, sheets, rounds));
         }
@@ -113,7 +122,7 @@ fn plain(period: u32, frames: &[u32]) -> Task {
 fn measure_long(what: &str, turns: usize, mut ours: impl FnMut() -> u64, mut theirs: impl FnMut() -> u64) {
     assert_eq!(ours(), theirs());
     let mut least = [f64::INFINITY; 2];
-    for _ in 0..turns {
+    for _ in 0..taken(turns) {
         let began = Instant::now();
         black_box(ours());
         least[0] = least[0].min(began.elapsed().as_secs_f64());
