@@ -14,14 +14,14 @@ ghost use Rattle.admission.specs.Inside.Steps.{task_answer};
 use sheet::{Answer, Reason, Refusal, Sheet, Task, TaskSet};
 
 // The start frame of a task, or why it has none.
-#[derive(Drop)]
+#[derive(Clone, Copy)]
 pub enum Start {
     At(u32),
     Nowhere(Reason),
 }
 
 // What admission finds of a task's frames and hands on: the start frame.
-#[derive(Drop)]
+#[derive(Clone, Copy)]
 pub struct Shape {
     pub start: u32,
 }
@@ -36,7 +36,7 @@ impl Shape {
 }
 
 // A set that was judged, with the shape of each task; beside a refusal stands a set with no task.
-#[derive(Drop)]
+#[derive(Clone, Copy)]
 pub struct Judged {
     pub answer: Answer,
     pub set: TaskSet,
@@ -44,7 +44,7 @@ pub struct Judged {
 }
 
 // A task's shape, or why it is turned away.
-#[derive(Drop)]
+#[derive(Clone, Copy)]
 enum TaskAnswer {
     Shaped(Shape),
     TurnedAway(Refusal),

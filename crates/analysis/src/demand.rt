@@ -10,7 +10,7 @@ use sheet::{Sheet, Task};
 
 // What the datasheet's formula takes of a task: at k the sum of its first k frames from its start frame, and behind room for
 // eight frames their number and the period.
-#[derive(Drop)]
+#[derive(Clone, Copy)]
 pub struct Tally;
 
 impl Tally {

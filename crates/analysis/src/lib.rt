@@ -22,7 +22,7 @@ use order::Blocker;
 use sheet::{Answer, Refusal, Sheet, TaskSet};
 
 // What the analysis answers: the set holds, or the first task in priority order that does not pass, with its blocker, or the one refusal.
-#[derive(Drop)]
+#[derive(Clone, Copy)]
 pub enum Outcome {
     Holds,
     Missed(u32, Blocker),
@@ -31,7 +31,7 @@ pub enum Outcome {
 
 // What the analysis finds of the task at a place of the priority order: its number, what the report prints of it, whether it passes, and
 // its eight response times.
-#[derive(Drop)]
+#[derive(Clone, Copy)]
 pub struct Finding {
     pub number: u32,
     pub period: u32,
@@ -43,7 +43,7 @@ pub struct Finding {
 }
 
 // The outcome, how many tasks were analysed, and what was found of each, in priority order.
-#[derive(Drop)]
+#[derive(Clone, Copy)]
 pub struct Analysis {
     pub outcome: Outcome,
     pub task_count: u32,
@@ -51,14 +51,14 @@ pub struct Analysis {
 }
 
 // What is decided of tasks whose times go to lent numbers: the outcome, and how many tasks were analysed.
-#[derive(Drop)]
+#[derive(Clone, Copy)]
 pub struct Decision {
     pub outcome: Outcome,
     pub task_count: u32,
 }
 
 // Where a set misses first: the place in the priority order of the first task that does not pass, and its first frame without a response time.
-#[derive(Drop)]
+#[derive(Clone, Copy)]
 pub enum Miss {
     Nothing,
     Frame(u32, u32),

@@ -7,7 +7,7 @@ ghost use Rattle.analysis.specs.Inside.Response.{response_to, as_written, is_the
 use crate::demand::{Above, demand};
 
 // A response time, where there is one up to the deadline.
-#[derive(Drop)]
+#[derive(Clone, Copy)]
 pub enum Response {
     At(u32),
     Never,

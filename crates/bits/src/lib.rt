@@ -1,4 +1,6 @@
 // Packed bits, most significant bit first: a field of 1 to 32 bits is taken from a byte string, or put into it, at any bit position.
+#![tactic(auto)]
+
 ghost use Rattle.std.specs.Prelude.{◌≡◌, ◌+◌, ◌-◌, ◌*◌, ◌/◌, ◌%◌, ◌^◌, ◌≤◌, ◌<◌, length};
 ghost use Rattle.bits.specs.Packed.{value, digits, bits_of, bytes_of};
 ghost use Rattle.bits.specs.Faces.{widest, within, taken, fits, stored};
@@ -6,7 +8,7 @@ ghost use Rattle.bits.specs.Faces.{widest, within, taken, fits, stored};
 // The most bits that a field has.
 pub const WIDEST: usize = 32;
 
-#[derive(Drop)]
+#[derive(Clone, Copy)]
 pub enum Taken {
     Value(u32),
     Outside,
@@ -52,7 +54,7 @@ fn hold_number(bytes: &mut [u8], n: u64)
 }
 
 // The bytes that a field touches, from `first` up to `end`, and how many bits of the last one are past it.
-#[derive(Drop)]
+#[derive(Clone, Copy)]
 struct Touched {
     first: usize,
     end: usize,

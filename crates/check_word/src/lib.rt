@@ -1,4 +1,6 @@
 // The check word of a byte string, by long division bit by bit; whether a byte string is sealed; and the sealing.
+#![tactic(auto)]
+
 ghost use Rattle.std.specs.Prelude.{◌≡◌, [], ◌∷◌, leb, length};
 ghost use Rattle.bits.specs.Packed.{value, bits_of};
 ghost use Rattle.check_word.specs.Division.{word_size, check_word, sealed, with_seal};

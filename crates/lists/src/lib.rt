@@ -85,7 +85,7 @@ pub fn scattered(set: TaskSet, list: &mut [Task])
 }
 
 // What a reading into a list answers: the version, the policy and the task count, or the refusal.
-#[derive(Drop)]
+#[derive(Clone, Copy)]
 pub enum ListRead {
     Set(u32, u32, u32),
     TurnedAway(Refusal),

@@ -9,7 +9,7 @@ use plays::Entry;
 use sheet::{Sheet, Task};
 
 // Who plays: how many tasks and entries there are, the task numbers in priority order, and the record of each task.
-#[derive(Drop)]
+#[derive(Clone, Copy)]
 pub struct Cast {
     pub count: u32,
     pub entries: u32,
@@ -18,7 +18,7 @@ pub struct Cast {
 }
 
 // How far a play has come: the state, how many entries were released, and the next one. The frame of each task's next job is kept apart, since few ticks change it.
-#[derive(Drop)]
+#[derive(Clone, Copy)]
 struct Progress {
     player: Player,
     released: u32,
@@ -26,7 +26,7 @@ struct Progress {
 }
 
 // How a play ended: the moment, and the task that misses (16: none, all jobs are done).
-#[derive(Drop)]
+#[derive(Clone, Copy)]
 pub struct End {
     pub tick: u32,
     pub task: u32,

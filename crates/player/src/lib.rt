@@ -12,7 +12,7 @@ use scripts::Judgement;
 use sheet::{Answer, Refusal, Sheet, Task, TaskSet};
 
 // Why there is no play: one of 1 to 12, the sheet's or for want of room; 13, the script is not made as a script is; 14, one of its items.
-#[derive(Drop)]
+#[derive(Clone, Copy)]
 pub enum PlayRefusal {
     Base(Refusal),
     Malformed,
@@ -32,7 +32,7 @@ impl PlayRefusal {
 }
 
 // How a play ends: the moment and the task that misses, or the moment at which all jobs are done; or the one refusal.
-#[derive(Drop)]
+#[derive(Clone, Copy)]
 pub enum Played {
     Missed(u32, u32),
     Done(u32),
@@ -40,14 +40,14 @@ pub enum Played {
 }
 
 // Whether a sheet and a script can be played.
-#[derive(Drop)]
+#[derive(Clone, Copy)]
 enum Readiness {
     Playable,
     Unplayable(PlayRefusal),
 }
 
 // A cast that is ready to play; nobody beside a refusal.
-#[derive(Drop)]
+#[derive(Clone, Copy)]
 struct Staged {
     readiness: Readiness,
     cast: Cast,

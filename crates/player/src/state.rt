@@ -8,7 +8,7 @@ ghost use Rattle.player.specs.State.{due_with, soonest_due, at_rest, released, f
 use plays::Entry;
 use sheet::Sheet;
 
-#[derive(Drop)]
+#[derive(Clone, Copy)]
 pub struct Player {
     // Of each task by number its pending job: the work left (0: none is pending), the moment by which it is due, and its lock.
     pub left: [u32; Sheet::TASK_ROOM],

@@ -16,7 +16,7 @@ use records::{Rest, Row};
 use sheet::{Answer, Reading, Refusal, Sheet, Task, TaskSet};
 
 // A task record, and where the next one starts; a refusal where there is none.
-#[derive(Drop)]
+#[derive(Clone, Copy)]
 struct Found {
     answer: Answer,
     next: usize,
@@ -44,13 +44,13 @@ fn not_found(why: Refusal) -> Found
 }
 
 // The numbers of a record's fixed part and of its frames, and where each ends; 0 in the slots past them.
-#[derive(Drop)]
+#[derive(Clone, Copy)]
 struct FixedRow {
     end: Row,
     numbers: [u32; Sheet::FIXED_ROOM],
 }
 
-#[derive(Drop)]
+#[derive(Clone, Copy)]
 struct FrameRow {
     end: Row,
     numbers: [u32; Sheet::FRAME_FIELDS_ROOM],

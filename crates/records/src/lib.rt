@@ -11,14 +11,14 @@ ghost use Rattle.records.specs.Inside.Steps.{Placed, number_taken};
 use bits::Taken;
 
 // How putting or taking a row went: it is done and the row ends at a bit position, or nothing was touched.
-#[derive(Drop)]
+#[derive(Clone, Copy)]
 pub enum Row {
     EndsAt(usize),
     Untouched,
 }
 
 // What stands behind the last field: fewer than eight zeros, eight bits or more, or fill with a bit set.
-#[derive(Drop)]
+#[derive(Clone, Copy)]
 pub enum Rest {
     Zeros,
     ByteLeft,

@@ -18,7 +18,7 @@ pub const ENOUGH: usize = Sheet::GREATEST_SIZE + 1;
 pub const ROOM: usize = 2048;
 
 // The report's text: the first `length` bytes; the others are 0.
-#[derive(Drop)]
+#[derive(Clone, Copy)]
 pub struct Text {
     pub length: usize,
     pub bytes: [u8; ROOM],

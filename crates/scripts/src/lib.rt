@@ -22,7 +22,7 @@ use records::Rest;
 use sheet::{Sheet, Task, TaskSet};
 
 // How a script is judged: sound, not made as a script is, or by the first item turned away, first frames and entries counted together from 0.
-#[derive(Drop)]
+#[derive(Clone, Copy)]
 pub enum Judgement {
     Sound,
     Malformed,
@@ -30,7 +30,7 @@ pub enum Judgement {
 }
 
 // The constants of a script.
-#[derive(Drop)]
+#[derive(Clone, Copy)]
 pub struct Format;
 
 impl Format {
@@ -211,7 +211,7 @@ fn judge_firsts(
 }
 
 // How far the releases of a task have come: the frame of its next job, the first tick at which it may be released, and the least standing of the next entry.
-#[derive(Drop)]
+#[derive(Clone, Copy)]
 struct Turn {
     next: u32,
     free_from: u64,

@@ -11,7 +11,7 @@ ghost use Rattle.sheet.specs.Refusals.{number_of, task_of_refusal, no_reason, re
 
 // A task as the workbench holds it: slots of `frames` and of `deadlines` past `frame_count` are not read, and are 0 when a record is filled.
 #[repr(C)]
-#[derive(Drop)]
+#[derive(Clone, Copy)]
 pub struct Task {
     pub period: u32,
     pub lock: u32,
@@ -21,7 +21,7 @@ pub struct Task {
 }
 
 // A set by value, what a sheet carries: the policy and, of sixteen records, the first `task_count`.
-#[derive(Drop)]
+#[derive(Clone, Copy)]
 pub struct TaskSet {
     pub policy: u32,
     pub task_count: u32,
@@ -29,7 +29,7 @@ pub struct TaskSet {
 }
 
 // The widths of the sheet's fields, in bits.
-#[derive(Drop)]
+#[derive(Clone, Copy)]
 pub struct Widths {
     pub version: usize,
     pub policy: usize,
@@ -40,7 +40,7 @@ pub struct Widths {
 }
 
 // What the sheet's numbers are held to.
-#[derive(Drop)]
+#[derive(Clone, Copy)]
 pub struct Limits {
     pub version_1: u32,
     pub version_2: u32,
@@ -51,7 +51,7 @@ pub struct Limits {
     pub greatest_size: usize,
 }
 
-#[derive(Drop)]
+#[derive(Clone, Copy)]
 pub struct Policies {
     pub listed: u32,
     pub rate_monotonic: u32,
@@ -59,7 +59,7 @@ pub struct Policies {
 }
 
 // The sheet's constants.
-#[derive(Drop)]
+#[derive(Clone, Copy)]
 pub struct Sheet;
 
 impl Sheet {
@@ -370,7 +370,7 @@ pub fn shortest_deadline(task: Task) -> u32
 
 // Why no frame of a task qualifies as start: the lowest-numbered largest frame, the shortest length at which another frame's sum is greater, and
 // the lowest-numbered such frame.
-#[derive(Drop)]
+#[derive(Clone, Copy)]
 pub struct Reason {
     pub frame: u32,
     pub length: u32,
@@ -391,7 +391,7 @@ impl Reason {
 }
 
 // What is turned away, in the order of the numbers 1 to 12, and 17; a task number where the number belongs to a task, and of 11 the reason.
-#[derive(Drop)]
+#[derive(Clone, Copy)]
 pub enum Refusal {
     Length,
     CheckWord,
@@ -471,14 +471,14 @@ impl Refusal {
 }
 
 // Whether something was admitted, or the one refusal.
-#[derive(Drop)]
+#[derive(Clone, Copy)]
 pub enum Answer {
     Admitted,
     Refused(Refusal),
 }
 
 // What the reader gives: beside a refusal stand no version and a set with no task.
-#[derive(Drop)]
+#[derive(Clone, Copy)]
 pub struct Reading {
     pub answer: Answer,
     pub version: u32,
@@ -486,7 +486,7 @@ pub struct Reading {
 }
 
 // What the writer gives: how many bytes it wrote, or the refusal.
-#[derive(Drop)]
+#[derive(Clone, Copy)]
 pub enum Written {
     Bytes(usize),
     TurnedAway(Refusal),

@@ -32,7 +32,7 @@ use scripts::Format;
 use sheet::{Answer, Refusal, Sheet, Task, TaskSet};
 
 // What the call answers: the set holds, or so many bytes of its script were written, or the one refusal.
-#[derive(Drop)]
+#[derive(Clone, Copy)]
 pub enum Worst {
     Holds,
     Written(usize),
@@ -40,7 +40,7 @@ pub enum Worst {
 }
 
 // The frame whose worst run it is: the place of its task, the frame, the place of the blocker (that behind the last task's for none), and the deadline.
-#[derive(Drop)]
+#[derive(Clone, Copy)]
 struct Case {
     place: u32,
     frame: u32,
@@ -49,7 +49,7 @@ struct Case {
 }
 
 // The releases of a task: the tick of the first, how far apart they are, the frame of the first job, and the lock.
-#[derive(Drop)]
+#[derive(Clone, Copy)]
 struct Series {
     opens: u32,
     step: u32,
@@ -58,7 +58,7 @@ struct Series {
 }
 
 // The releases of all tasks by number, up to the tick `end`.
-#[derive(Drop)]
+#[derive(Clone, Copy)]
 struct Plan {
     count: u32,
     end: u32,

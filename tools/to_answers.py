@@ -1,0 +1,256 @@
+#!/usr/bin/env python3
+"""Turns proofs over `Tie` (Proof.antt) into Invariants.antt and Answers.antt, under the names that Rattle gives goals and steps now.
+
+usage: python3 tools/to_answers.py CRATE_FOLDER NAMES_JSON
+
+NAMES_JSON is what `rt check --generated DIR --old-names` writes. Answers that only say `search rules` are left out, since the check tries that itself.
+A Proof.antt that is a walk by hand is left as it is. What it writes is a beginning: `rt check` decides.
+"""
+
+import json
+import os
+import re
+import sys
+
+WORD = r"(?<![\w'\-.])%s(?![\w'\-])"
+
+
+def plain(name):
+    return name.replace("-", "_")
+
+
+def chunks(text):
+    """Top-level chunks of a file: (kind, name, lines)."""
+    out = []
+    pending = []
+    current = None
+    for line in text.split("\n"):
+        if line.startswith("--"):
+            pending.append(line)
+            continue
+        if not line.strip():
+            if current is not None:
+                current[2].append(line)
+            elif pending:
+                pending.append(line)
+            continue
+        if line[0] in " )]}":
+            current[2].append(line)
+            continue
+        if line.startswith("use "):
+            out.append(["use", "", pending + [line]])
+            pending = []
+            current = None
+            continue
+        m = re.match(r"((?:abbrev |unfoldable |pub )*)([^\s:(){}]+)\s*:(?=\s|$)", line)
+        if m:
+            current = ["decl", m.group(2), pending + [line]]
+            pending = []
+            out.append(current)
+            continue
+        head = line.split()[0]
+        if current is not None and (head == "unfolding" or head == current[1]):
+            current[2] += pending + [line]
+            pending = []
+            continue
+        current = ["raw", head, pending + [line]]
+        pending = []
+        out.append(current)
+    return out
+
+
+def convert(path, fn, crate, info, crate_folder):
+    text = open(path).read()
+    if "Tie as tie" not in text:
+        return "no tie"
+    parts = chunks(text)
+    comment = [l for l in parts[0][2] if l.startswith("--")] if parts else []
+    needs = {plain(a): b for a, b in info["needs"]}
+    places, steps, fields = {}, {}, {}
+    for old, _, step, _, renamed in info["places"]:
+        new = next(n for n, p in zip(info["places_by_name"], info["places"]) if p[0] == old)
+        places[plain(old)] = new
+        if step and step[0]:
+            steps.setdefault(plain(step[0]), step[1])
+            for a, b in renamed or []:
+                fields.setdefault(plain(step[0]), {})[a] = b
+    loops = {plain(l[0][0]): (l[0][1], l[1], changed) for l, changed in zip(info["loops"], info["changed"])}
+
+    def paths(s):
+        heads = {"c"} | set(re.findall(r"\((\w+) : tie\.", s))
+        for m in re.finditer(r"\blet (\w+) = (\w+)(?:\.before)*(?=\s)", s):
+            if m.group(2) in heads:
+                heads.add(m.group(1))
+
+        def one(m):
+            head, rest = m.group(1), m.group(2).split(".")[1:]
+            if head not in heads:
+                return m.group()
+            n = 0
+            while n < len(rest) and rest[n] == "before":
+                n += 1
+            if n < len(rest):
+                rest = rest[n:]
+                old = plain(rest[0])
+                if old in steps:
+                    if len(rest) > 1 and rest[1] in fields.get(old, {}):
+                        rest[1] = fields[old][rest[1]]
+                    rest[0] = steps[old]
+            return head + "." + ".".join("type_inv" if r == "type-inv" else r for r in rest)
+
+        s = re.sub(r"(?<![\w'\-.])([a-z]\w*'?)((?:\.[\w'\-·]+)+)", one, s)
+        s = re.sub(r"\btie\.([A-Z][\w\-]*)", lambda m: "goal." + places.get(plain(m.group(1)), m.group(1)), s)
+        return s
+
+    # an import of the repository's own that was taken for a name of Rattle's making
+    own = set()
+    for m in re.finditer(r"^use Rattle\.(\w+)[\w.+]*\.\{([^}]*)\}", text, re.M):
+        if os.path.isdir(os.path.join(os.path.dirname(os.path.abspath(crate_folder)), m.group(1))):
+            own |= {i.strip() for i in m.group(2).split(",") if "-" in i}
+    for n in own:
+        text = re.sub(r"(?<![\w'\-])" + re.escape(n) + r"(?![\w'\-])", plain(n), text)
+    # a later step by a name of its own is the same record, read flat
+    while True:
+        m = re.search(r"\blet (\w+) = (\w+)((?:\.before)+) in\b ?\n?\s*", text)
+        if not m or m.group(2) not in ("c", "e", "d", "b"):
+            break
+        start = text.rfind("\n\n", 0, m.start())
+        end = text.find("\n\n", m.end())
+        end = len(text) if end < 0 else end
+        block = text[m.end() : end]
+        block = re.sub(r"(?<![\w'\-.])" + m.group(1) + r"(?=[\s.,);\]]|$)", m.group(2) + m.group(3), block)
+        text = text[: m.start()] + block + text[end:]
+    # a lemma over the record of one place stands where it is used
+    for m in list(re.finditer(r"^([\w'\-]+) : \((\w+) : tie\.[\w\-]+\) → [^\n]*(?:\n +[^\n]*)*\n(unfolding [^\n]*\n)?\1 (\w+) =((?:[^\n]|\n +)*)\n", text, re.M)):
+        if m.group(3):
+            continue
+        rhs = " ".join(m.group(5).split())
+        arg = m.group(4)
+        text = text.replace(m.group(), "")
+
+        def inlined(k):
+            return "(" + re.sub(r"(?<![\w'\-.])" + arg + r"(?=[\s.,);\]]|$)", k.group(1), rhs) + ")"
+
+        text = re.sub(r"(?<![\w'\-.])" + re.escape(m.group(1)) + r" (\w+(?:\.before)*)(?![\w.'\-])", inlined, text)
+    parts = chunks(text)
+    uses, invariants, helpers, answers = [], [], [], []
+    renames = {}
+    invs = []
+    for kind, name, lines in parts:
+        if kind == "use":
+            l = lines[-1]
+            if re.search(r"\.Statement\.\{statement\}|\.Tie as tie", l):
+                continue
+            uses.append(l)
+            continue
+        body = "\n".join(lines)
+        sig = re.search(r":\s*tie\.(Need-[\w\-]+|invariant-[\w\-]+|decreases-[\w\-]+)", body)
+        if kind == "decl" and sig:
+            what = sig.group(1)
+            if what.startswith("Need-"):
+                raw = plain(what[5:])
+                new = needs.get(raw)
+                if new is None:
+                    for word in ("overflow_", "slice_bounds_", "bounds_", "nonzero_"):
+                        if raw.startswith(word) and raw[len(word):] in needs:
+                            new = needs[raw[len(word):]]
+                if new is None:
+                    for a in needs:
+                        if raw.endswith(a) or plain(needs[a]) == raw:
+                            new = needs[a]
+                            break
+                if new is None:
+                    cand = plain(name)
+                    new = needs.get(cand)
+                answers.append((name, new or "UNKNOWN-" + what, body))
+                if new:
+                    renames[name] = new
+            else:
+                invs.append((name, what, body))
+                renames[name] = None
+            continue
+        if kind == "decl" and re.search(r":.*statement M|tie\.close", body):
+            continue
+        helpers.append(body)
+
+    def cleaned(s):
+        for name, _, _ in invs:
+            s = re.sub(r"(?<=[\w\-]) " + re.escape(name) + r"(?![\w'\-])", "", s)
+        return s
+
+    out_inv = []
+    for name, what, body in invs:
+        base, loop = what.split("-", 1)
+        if plain(loop) in loops:
+            new_loop, vs, changed = loops[plain(loop)]
+        else:
+            new_loop, vs, changed = loop, [], []
+        lines = body.split("\n")
+        text_def = "\n".join(l for l in lines if not l.startswith("--"))
+        m = re.search(r"^" + re.escape(name) + r"((?: +[^\s=:]+)*)\s*=\s*(.*)\Z", text_def, re.S | re.M)
+        if not m:
+            out_inv.append(body)
+            continue
+        params, rhs = m.group(1).split(), m.group(2).rstrip()
+        names = {}
+        now = [v for v, c in zip(vs, changed) if c]
+        for i, p in enumerate(params):
+            if i < len(vs):
+                names[p] = ("l.initial." if changed[i] else "l.") + vs[i]
+            elif i - len(vs) < len(now):
+                names[p] = "l." + now[i - len(vs)]
+        for p in sorted(names, key=len, reverse=True):
+            if p != "_":
+                rhs = re.sub(WORD % re.escape(p), lambda _: names[p], rhs)
+        unf = re.search(r"^unfolding .*$", text_def, re.M)
+        c = [l for l in lines if l.startswith("--")]
+        new = f"{base}-{new_loop}"
+        out_inv.append("\n".join(c + [f"abbrev pub {new} : goal.{new}"] + ([unf.group()] if unf else []) + [f"{new} l = {rhs}"]))
+
+    def finish(s):
+        s = cleaned(s)
+        for a, b in renames.items():
+            if b:
+                s = re.sub(WORD % re.escape(a), b, s)
+        return paths(s)
+
+    out_ans = [finish(h).rstrip() for h in helpers]
+    written = 0
+    for name, new, body in answers:
+        lines = body.split("\n")
+        c = [l for l in lines if l.startswith("--")]
+        rest = "\n".join(l for l in lines if not l.startswith("--")).rstrip()
+        m = re.search(r"^" + re.escape(name) + r"((?: +[^\s=:]+)*)\s*=\s*(.*)\Z", rest, re.S | re.M)
+        if m and m.group(2).strip() in ("search rules", "search (rules)"):
+            continue
+        unf = re.search(r"^unfolding .*$", rest, re.M)
+        params = [p for p in m.group(1).split() if p != "κs"] if m else ["c"]
+        rhs = finish(m.group(2)) if m else "?"
+        written += 1
+        out_ans.append("\n".join(c + [f"pub {new} : goal.{new}"] + ([unf.group()] if unf else []) + [f"{new} {' '.join(params)} = {rhs}".rstrip()]))
+    folder = os.path.dirname(path)
+    where = f"Rattle.{crate}.proofs.{fn}"
+    head = "\n".join(comment)
+    if out_inv:
+        with open(os.path.join(folder, "Invariants.antt"), "w") as f:
+            f.write(head + "\n" + "\n".join(uses) + f"\nuse {where}.Given as goal\n\n" + "\n\n".join(out_inv) + "\n")
+    if written:
+        with open(os.path.join(folder, "Answers.antt"), "w") as f:
+            f.write(head + "\n" + "\n".join(uses) + f"\nuse {where}.Goals as goal\n\n" + "\n\n".join(out_ans) + "\n")
+    os.remove(path)
+    return f"{len(invs)} invariants and measures, {written} of {len(answers)} answers" + ("".join(" UNKNOWN " + b for _, n, b in answers if n.startswith("UNKNOWN"))[:200])
+
+
+def main(folder, names):
+    crate = os.path.basename(os.path.abspath(folder))
+    d = json.load(open(names))
+    for where, _, files in sorted(os.walk(os.path.join(folder, "proofs"))):
+        if "Proof.antt" in files:
+            fn = os.path.relpath(where, os.path.join(folder, "proofs")).replace("/", ".")
+            info = d.get(f"Rattle-{crate}-proofs.{fn}.Lts")
+            said = convert(os.path.join(where, "Proof.antt"), fn, crate, info, folder) if info else "not named"
+            print(f"{crate}::{fn}: {said}")
+
+
+if __name__ == "__main__":
+    main(*sys.argv[1:3])
