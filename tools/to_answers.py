@@ -59,6 +59,68 @@ def chunks(text):
     return out
 
 
+def one_record(text):
+    """A step further back that has a name of its own is read off the record at hand: its fields are there too."""
+    while True:
+        m = re.search(r"\blet (\w+'?) = (\w+'?)((?:\.before)+) in\b ?\n?\s*", text)
+        if not m:
+            return text
+        end = text.find("\n\n", m.end())
+        end = len(text) if end < 0 else end
+        block = text[m.end() : end]
+        block = re.sub(r"(?<![\w'\-.])" + m.group(1) + r"(?=[\s.,);\]]|$)", m.group(2) + m.group(3), block)
+        text = text[: m.start()] + block + text[end:]
+
+
+def atom(text, at):
+    """The end of the argument that begins at a place, or None."""
+    if at >= len(text) or text[at] in ")],;\n=":
+        return None
+    if text[at] in "([":
+        depth = 0
+        for i in range(at, len(text)):
+            depth += text[i] in "(["
+            depth -= text[i] in ")]"
+            if depth == 0:
+                m = re.compile(r"(?:\.[\w'\-]+)*").match(text, i + 1)
+                return m.end()
+        return None
+    m = re.compile(r"[\w'₀-₉_\-]+(?:\.[\w'\-]+)*").match(text, at)
+    return m.end() if m and m.group() not in ("in", "let", "where") else None
+
+
+def inlined(text):
+    """A lemma over the record of one place stands where it is used, since the goals' records differ."""
+    while True:
+        m = re.search(r"^([\w'\-]+) : ((?:\(\w+(?: \w+)* : [^\n]*?\) )*?)\(c : tie\.[A-MO-Z][^()\n]*\)[^\n]*(?:\n +[^\n]*)*\n(?:unfolding [^\n]*\n)?\1((?: [\w'₀-₉_]+)+) =((?:[^\n]|\n +(?! *where))*)\n", text, re.M)
+        if not m or "where" in m.group(4).split():
+            return text
+        name, params, rhs = m.group(1), m.group(3).split(), " ".join(m.group(4).split())
+        text = text[: m.start()] + text[m.end() :]
+        out, at = "", 0
+        for k in re.finditer(r"(?<![\w'\-.])" + re.escape(name) + r"(?![\w'\-])", text):
+            if k.start() < at:
+                continue
+            ends, args = k.end(), []
+            while len(args) < len(params) and ends < len(text) and text[ends] == " ":
+                e = atom(text, ends + 1)
+                if e is None:
+                    break
+                args.append(text[ends + 1 : e])
+                ends = e
+            if not args:
+                continue
+            body = rhs
+            for q, v in zip(params, args):
+                if q != "_":
+                    body = re.sub(r"(?<![\w'\-.])" + re.escape(q) + r"(?![\w'₀-₉\-])", lambda _: v, body)
+            rest = params[len(args) :]
+            body = f"(λ {' '.join(rest)}. {body})" if rest else f"({body})"
+            out += text[at : k.start()] + body
+            at = ends
+        text = out + text[at:]
+
+
 def convert(path, fn, crate, info, crate_folder):
     text = open(path).read()
     if "Tie as tie" not in text:
@@ -66,12 +128,17 @@ def convert(path, fn, crate, info, crate_folder):
     parts = chunks(text)
     comment = [l for l in parts[0][2] if l.startswith("--")] if parts else []
     needs = {plain(a): b for a, b in info["needs"]}
-    places, steps, fields = {}, {}, {}
-    for old, _, step, _, renamed in info["places"]:
+    places, steps, fields, arms, callees = {}, {}, {}, {}, {}
+    for entry in info["arms"]:
+        if entry:
+            for new, step, old in entry[2]:
+                arms[(plain(step), tuple(old))] = (entry[0], new)
+    for old, _, step, callee, renamed in info["places"]:
         new = next(n for n, p in zip(info["places_by_name"], info["places"]) if p[0] == old)
         places[plain(old)] = new
         if step and step[0]:
             steps.setdefault(plain(step[0]), step[1])
+            callees.setdefault(plain(step[0]), callee)
             for a, b in renamed or []:
                 fields.setdefault(plain(step[0]), {})[a] = b
     loops = {plain(l[0][0]): (l[0][1], l[1], changed) for l, changed in zip(info["loops"], info["changed"])}
@@ -92,7 +159,13 @@ def convert(path, fn, crate, info, crate_folder):
             if n < len(rest):
                 rest = rest[n:]
                 old = plain(rest[0])
+                for k in range(len(rest), 1, -1):
+                    if (old, tuple(rest[1:k])) in arms:
+                        return head + "." + ".".join([*arms[(old, tuple(rest[1:k]))], *rest[k:]])
                 if old in steps:
+                    params = info["params"].get(callees[old], [])
+                    if len(rest) > 2 and rest[1] in ("new", "auto") and rest[2].isdigit() and int(rest[2]) < len(params):
+                        rest[2] = params[int(rest[2])]
                     if len(rest) > 1 and rest[1] in fields.get(old, {}):
                         rest[1] = fields[old][rest[1]]
                     rest[0] = steps[old]
@@ -109,29 +182,8 @@ def convert(path, fn, crate, info, crate_folder):
             own |= {i.strip() for i in m.group(2).split(",") if "-" in i}
     for n in own:
         text = re.sub(r"(?<![\w'\-])" + re.escape(n) + r"(?![\w'\-])", plain(n), text)
-    # a later step by a name of its own is the same record, read flat
-    while True:
-        m = re.search(r"\blet (\w+) = (\w+)((?:\.before)+) in\b ?\n?\s*", text)
-        if not m or m.group(2) not in ("c", "e", "d", "b"):
-            break
-        start = text.rfind("\n\n", 0, m.start())
-        end = text.find("\n\n", m.end())
-        end = len(text) if end < 0 else end
-        block = text[m.end() : end]
-        block = re.sub(r"(?<![\w'\-.])" + m.group(1) + r"(?=[\s.,);\]]|$)", m.group(2) + m.group(3), block)
-        text = text[: m.start()] + block + text[end:]
-    # a lemma over the record of one place stands where it is used
-    for m in list(re.finditer(r"^([\w'\-]+) : \((\w+) : tie\.[\w\-]+\) → [^\n]*(?:\n +[^\n]*)*\n(unfolding [^\n]*\n)?\1 (\w+) =((?:[^\n]|\n +)*)\n", text, re.M)):
-        if m.group(3):
-            continue
-        rhs = " ".join(m.group(5).split())
-        arg = m.group(4)
-        text = text.replace(m.group(), "")
-
-        def inlined(k):
-            return "(" + re.sub(r"(?<![\w'\-.])" + arg + r"(?=[\s.,);\]]|$)", k.group(1), rhs) + ")"
-
-        text = re.sub(r"(?<![\w'\-.])" + re.escape(m.group(1)) + r" (\w+(?:\.before)*)(?![\w.'\-])", inlined, text)
+    text = one_record(text)
+    text = inlined(text)
     parts = chunks(text)
     uses, invariants, helpers, answers = [], [], [], []
     renames = {}
@@ -221,7 +273,7 @@ def convert(path, fn, crate, info, crate_folder):
         c = [l for l in lines if l.startswith("--")]
         rest = "\n".join(l for l in lines if not l.startswith("--")).rstrip()
         m = re.search(r"^" + re.escape(name) + r"((?: +[^\s=:]+)*)\s*=\s*(.*)\Z", rest, re.S | re.M)
-        if m and m.group(2).strip() in ("search rules", "search (rules)"):
+        if m and m.group(2).strip() in ("search rules", "search (rules)") and "unfolding" not in rest:
             continue
         unf = re.search(r"^unfolding .*$", rest, re.M)
         params = [p for p in m.group(1).split() if p != "κs"] if m else ["c"]

@@ -1,4 +1,6 @@
 // Packed records: rows of fields put into a byte string and taken from it, zero bits up to a whole byte, the check word behind.
+#![tactic(auto)]
+
 ghost use Rattle.std.specs.Prelude.{true, ◌≡◌, ◌+◌, ◌<◌, length, drop};
 ghost use Rattle.bits.specs.Packed.{bits_of};
 ghost use Rattle.bits.specs.Faces.{taken};
