@@ -169,6 +169,8 @@ def convert(path, fn, crate, info, crate_folder):
                     if len(rest) > 1 and rest[1] in fields.get(old, {}):
                         rest[1] = fields[old][rest[1]]
                     rest[0] = steps[old]
+                    if old.startswith("wrapping_") and rest[1:] == ["ensures"]:
+                        rest.append("value")
             return head + "." + ".".join("type_inv" if r == "type-inv" else r for r in rest)
 
         s = re.sub(r"(?<![\w'\-.])([a-z]\w*'?)((?:\.[\w'\-·]+)+)", one, s)

@@ -1,5 +1,5 @@
 -- Tasks put into records and taken out again, and the slots of a record and of a set that are in use.
-use Rattle.std.proofs.Common.{◌≡◌, ℕ, ◌<◌, ◌≤◌, min, List, [], ◌∷◌, map, length, get_or, take, sym, refl, ap, ◌∙◌, ap₂, arith, length-take, take_all, get_or-take, take_at}
+use Rattle.std.proofs.Common.{◌≡◌, ℕ, ◌<◌, ◌≤◌, min, List, ◌∷◌, map, length, get_or, take, sym, refl, ap, ◌∙◌, ap₂, arith, length-take, take_all, get_or-take, take_at}
 use native.Mathlib.Decide.{dec_le}
 use native.Mathlib.Nat.{min-eq_left, min-eq_right}
 use lib.ListN.{length-map}

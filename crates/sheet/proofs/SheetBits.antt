@@ -1,5 +1,5 @@
 -- A whole sheet in bits, both ways: the sheet of tasks that pass is read as it was written, and an admitted byte string is header, records and fill of what it carries.
-use Rattle.std.proofs.Common.{◌≡◌, ℕ, ◌+◌, ◌-◌, ◌^◌, ◌<◌, ◌≤◌, Bool, true, false, not, ◌||◌, eqb, ltb, List, ◌++◌, length, replicate, sym, ap, ◌∙◌, ap₂, append_assoc, arith, take-append-drop, length-take-le, le-leb}
+use Rattle.std.proofs.Common.{◌≡◌, ℕ, ◌-◌, ◌^◌, ◌<◌, ◌≤◌, Bool, true, false, not, ◌||◌, eqb, ltb, List, ◌++◌, length, replicate, sym, ap, ◌∙◌, ap₂, append_assoc, arith, take-append-drop, length-take-le, le-leb}
 use Rattle.bits.specs.Packed.{Bytes, bits_of}
 use Rattle.bits.proofs.Laws.{length_bits, bytes_take}
 use Rattle.check_word.specs.Division.{seal, body, sealed}

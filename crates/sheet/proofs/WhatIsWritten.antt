@@ -1,5 +1,5 @@
 -- What the writer's answer says: bytes were written exactly where the version is known, the set is admitted, its version can hold it and its sheet has room.
-use Rattle.std.proofs.Common.{◌≡◌, ℕ, ◌≤◌, true, not, ◌||◌, List, [], map, length, take, ap, ◌∙◌, arith}
+use Rattle.std.proofs.Common.{◌≡◌, ℕ, ◌≤◌, true, not, ◌||◌, List, map, length, take, ap, ◌∙◌, arith}
 use borrow.Author.Tests.{not-false}
 use Rattle.lent.specs.Lent.{laid}
 use Rattle.lent.proofs.Laid.{take_laid}

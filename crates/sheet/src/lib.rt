@@ -1,4 +1,6 @@
 // The sheet: its constants, stated once, the task record, and the refusals by number.
+#![tactic(auto)]
+
 ghost use Rattle.std.specs.Prelude.{◌≡◌, ◌-◌, min, true, ◌++◌, length, replicate};
 ghost use Rattle.theory.specs.Tasks.{frame_count, deadline_of, shortest_deadline};
 ghost use Rattle.sheet.specs.Pairs.{the_widths, the_limits, the_policies};
