@@ -19,6 +19,14 @@ def plain(name):
     return name.replace("-", "_")
 
 
+def step_key(name, steps):
+    """The key of a step, also where the scripts gave it another spelling."""
+    for key in (plain(name), re.sub(r"_(\d+)$", r"\1", plain(name)), re.sub(r"_lem$", "", plain(name))):
+        if key in steps:
+            return key
+    return plain(name)
+
+
 def chunks(text):
     """Top-level chunks of a file: (kind, name, lines)."""
     out = []
@@ -65,10 +73,10 @@ def one_record(text):
         m = re.search(r"\blet (\w+'?) = (\w+'?)((?:\.before)+) in\b ?\n?\s*", text)
         if not m:
             return text
-        end = text.find("\n\n", m.end())
-        end = len(text) if end < 0 else end
+        end = re.compile(r"\n(?=\S)|\n\n|\Z").search(text, m.end()).start()
         block = text[m.end() : end]
-        block = re.sub(r"(?<![\w'\-.])" + m.group(1) + r"(?=[\s.,);\]]|$)", m.group(2) + m.group(3), block)
+        follows = r"(?=[.,);\]])" if m.group(1) == "at" else r"(?=[\s.,);\]]|$)"
+        block = re.sub(r"(?<![\w'\-.])" + m.group(1) + follows, m.group(2) + m.group(3), block)
         text = text[: m.start()] + block + text[end:]
 
 
@@ -92,10 +100,13 @@ def atom(text, at):
 def inlined(text):
     """A lemma over the record of one place stands where it is used, since the goals' records differ."""
     while True:
-        m = re.search(r"^([\w'\-]+) : ((?:\(\w+(?: \w+)* : [^\n]*?\) )*?)\(c : tie\.[A-MO-Z][^()\n]*\)[^\n]*(?:\n +[^\n]*)*\n(?:unfolding [^\n]*\n)?\1((?: [\w'₀-₉_]+)+) =((?:[^\n]|\n +(?! *where))*)\n", text, re.M)
-        if not m or "where" in m.group(4).split():
+        m = re.search(r"^([\w'\-]+) : ((?:\(\w+(?: \w+)* : [^\n]*?\) )*?)\(c : tie\.[A-MO-Z][^()\n]*\)((?:[^\n]|\n +)*)\n(?:unfolding [^\n]*\n)?\1((?: [\w'₀-₉_]+)+) =((?:[^\n]|\n +(?! *where))*)\n", text, re.M)
+        if not m or "where" in m.group(5).split():
             return text
-        name, params, rhs = m.group(1), m.group(3).split(), " ".join(m.group(4).split())
+        name, params, rhs = m.group(1), m.group(4).split(), " ".join(m.group(5).split())
+        says = " ".join(m.group(3).split())
+        if re.match(r"(?:search|omega|rw|simp|grind|let|cc|record|\()", rhs) and says.startswith("→ ") and not re.search(r"→|\(\w+ :", says[2:].split(" in ")[-1]):
+            rhs = f"let it : {says[2:]} = {rhs} in it"
         text = text[: m.start()] + text[m.end() :]
         out, at = "", 0
         for k in re.finditer(r"(?<![\w'\-.])" + re.escape(name) + r"(?![\w'\-])", text):
@@ -129,6 +140,7 @@ def convert(path, fn, crate, info, crate_folder):
     comment = [l for l in parts[0][2] if l.startswith("--")] if parts else []
     needs = {plain(a): b for a, b in info["needs"]}
     places, steps, fields, arms, callees = {}, {}, {}, {}, {}
+    args = {a.split(".")[-1]: b.split(".")[-1] for a, b in info["args"] if a.startswith((".args", ".ranges"))}
     for entry in info["arms"]:
         if entry:
             for new, step, old in entry[2]:
@@ -149,8 +161,13 @@ def convert(path, fn, crate, info, crate_folder):
             if m.group(2) in heads:
                 heads.add(m.group(1))
 
+        passed = set(re.findall(r"\blet (\w+) = \w+(?:\.before)*\.args(?=\s)", s))
+
         def one(m):
             head, rest = m.group(1), m.group(2).split(".")[1:]
+            if head in passed and rest[0] in args:
+                rest[0] = args[rest[0]]
+                return head + "." + ".".join(rest)
             if head not in heads:
                 return m.group()
             n = 0
@@ -158,7 +175,9 @@ def convert(path, fn, crate, info, crate_folder):
                 n += 1
             if n < len(rest):
                 rest = rest[n:]
-                old = plain(rest[0])
+                if rest[0] in ("args", "ranges") and len(rest) > 1 and rest[1] in args:
+                    rest[1] = args[rest[1]]
+                old = step_key(rest[0], steps)
                 for k in range(len(rest), 1, -1):
                     if (old, tuple(rest[1:k])) in arms:
                         return head + "." + ".".join([*arms[(old, tuple(rest[1:k]))], *rest[k:]])

@@ -1,4 +1,6 @@
 // Admission of a task list by value: the start frame of a task, 9, 10 and 11 task by task, and the whole order for a list.
+#![tactic(auto)]
+
 ghost use Rattle.std.specs.Prelude.{◌&&◌, map, ◌≡◌, ◌≤◌, ◌<◌, ◌^◌, length, take};
 ghost use Rattle.std.proofs.Math.Option.{get_or};
 ghost use Rattle.theory.specs.Tasks.{work, largest, largest_frame, qualifies};

@@ -1,4 +1,6 @@
 // The reader: sheet bytes to a set, or the one refusal.
+#![tactic(auto)]
+
 ghost use Rattle.std.specs.Prelude.{◌≡◌, true, ◌*◌, ◌≤◌, ◌<◌, length, get_or, take, drop};
 ghost use Rattle.bits.specs.Packed.{bits_of};
 ghost use Rattle.records.specs.Rows.{total};

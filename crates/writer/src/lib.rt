@@ -1,4 +1,6 @@
 // The writer: a set by value becomes a sheet of either version in the lent bytes, field after field, most significant bit first.
+#![tactic(auto)]
+
 ghost use Rattle.std.specs.Prelude.{◌≡◌, true, ◌||◌, map, ◌++◌, ◌+◌, ◌-◌, ◌*◌, ◌≤◌, ◌<◌, length, get_or, take, replicate};
 ghost use Rattle.records.specs.Faces.{end_of};
 ghost use Rattle.records.specs.Inside.Steps.{Placed};
