@@ -15,6 +15,10 @@ import sys
 WORD = r"(?<![\w'\-.])%s(?![\w'\-])"
 
 
+# fields that the scripts leave where a path begins at a lemma
+OLDER = {"inv": "invariant", "taken": "true", "left": "false"}
+
+
 def plain(name):
     return name.replace("-", "_")
 
@@ -175,6 +179,8 @@ def convert(path, fn, crate, info, crate_folder):
                 n += 1
             if n < len(rest):
                 rest = rest[n:]
+                if rest[0] == "pre":
+                    rest[0] = "requires"
                 if rest[0] in ("args", "ranges") and len(rest) > 1 and rest[1] in args:
                     rest[1] = args[rest[1]]
                 old = step_key(rest[0], steps)
@@ -188,6 +194,8 @@ def convert(path, fn, crate, info, crate_folder):
                     if len(rest) > 1 and rest[1] in fields.get(old, {}):
                         rest[1] = fields[old][rest[1]]
                     rest[0] = steps[old]
+                    if len(rest) > 1 and rest[1] in OLDER:
+                        rest[1] = OLDER[rest[1]]
                     if old.startswith("wrapping_") and rest[1:] == ["ensures"]:
                         rest.append("value")
             return head + "." + ".".join("type_inv" if r == "type-inv" else r for r in rest)
