@@ -282,7 +282,7 @@ def convert(path, fn, crate, info, crate_folder):
                 names[p] = "l." + now[i - len(vs)]
         for p in sorted(names, key=len, reverse=True):
             if p != "_":
-                rhs = re.sub(WORD % re.escape(p), lambda _: names[p], rhs)
+                rhs = re.sub((WORD % re.escape(p)) + r"(?! =)", lambda _: names[p], rhs)
         unf = re.search(r"^unfolding .*$", text_def, re.M)
         c = [l for l in lines if l.startswith("--")]
         new = f"{base}-{new_loop}"

@@ -61,8 +61,9 @@ Rises lo hi (e ∷ es) = (lo ≤ standing e) × Rises (suc (standing e)) hi es
 
 -- entries that rise within narrower marks rise within wider ones
 pub rises_wider : {lo lo' hi hi' : ℕ} (es : List Entry) → lo' ≤ lo → hi ≤ hi' → Rises lo hi es → Rises lo' hi' es
-rises_wider [] h k r = omega arith
-rises_wider (e ∷ es) h k r = (omega (arith, r.0), rises_wider es (le_refl _) k r.1)
+rises_wider {lo = lo} {lo' = lo'} {hi = hi} {hi' = hi'} [] h k r = omega arith
+rises_wider {lo = lo} {lo' = lo'} {hi = hi} {hi' = hi'} (e ∷ es) h k r =
+    (omega (arith, r.0), rises_wider {lo = suc (standing e)} {lo' = suc (standing e)} {hi = hi} {hi' = hi'} es (le_refl _) k r.1)
 
 rises_append : (lo mid hi : ℕ) (xs ys : List Entry) → Rises lo mid xs → Rises mid hi ys → Rises lo hi (xs ++ ys)
 rises_append lo mid hi [] ys r s = rises_wider ys r (le_refl hi) s

@@ -1,0 +1,9 @@
+-- `standing` meets its contract.
+use mathlib.Core.Path.{refl}
+use borrow.Author.Rules.{rules}
+use Rattle.plays.specs.Items.{standing}
+use Rattle.scripts.proofs.standing.Goals as goal
+
+pub returns : goal.returns
+unfolding standing
+returns c = refl
