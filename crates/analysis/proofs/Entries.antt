@@ -1,7 +1,7 @@
 -- From the steps to the entries: what the ordered copy of an admitted set gives, and what lent numbers hold.
 use mathlib.Core.List.{List, [], ◌∷◌, ◌++◌, map}
 use mathlib.Core.Path.{◌≡◌, refl, sym, ap, ◌∙◌}
-use Prim.Native.Nat.{ℕ, ◌≤◌, ◌<◌, zero, suc, ◌+◌, ◌-◌, ◌*◌, zero-le}
+use Prim.Native.Nat.{ℕ, ◌≤◌, ◌<◌, zero, suc, ◌+◌, ◌*◌, zero-le}
 use native.Mathlib.Omega.{arith}
 use lib.ListN.{length, get_or, drop, length-append, length-replicate, drop_of_length-le, get_or-eq_default, get_or-append}
 use lib.Seq.{take_at, drop-cons}

@@ -1,4 +1,6 @@
 // The analysis of a set: order by policy, response times, verdict.
+#![tactic(auto)]
+
 ghost use Rattle.std.specs.Prelude.{map, ◌≡◌};
 ghost use Rattle.sheet.specs.Tasks.{task_in, records_of};
 ghost use Rattle.sheet.specs.Admission.{admission};

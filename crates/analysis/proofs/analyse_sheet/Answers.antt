@@ -3,7 +3,6 @@ use mathlib.Core.Path.{ap, ◌∙◌}
 use Rattle.analysis.specs.Inside.Delivery.{delivered_decision, delivered}
 use Rattle.analysis.specs.declared.Analysis.{Analysis}
 use Rattle.analysis.proofs.Entries.{sheet_numbered, sheet_delivers}
-use borrow.Author.Rules.{rules}
 use Rattle.analysis.proofs.analyse_sheet.Goals as goal
 
 pub deliver-requires : goal.deliver-requires

@@ -4,7 +4,6 @@ use mathlib.Core.Path.{sym, ap, ◌∙◌}
 use Rattle.sheet.specs.Tasks.{task_in, records_of}
 use Rattle.sheet.specs.declared.Answer.{Answer}
 use Rattle.analysis.specs.Answers.{analysis_by}
-use borrow.Author.Rules.{rules}
 use Rattle.analysis.proofs.analysis_of.Goals as goal
 
 pub analysed-requires : goal.analysed-requires

@@ -2,7 +2,6 @@
 use mathlib.Core.Path.{◌∙◌}
 use Rattle.analysis.specs.Answers.{set_analysis}
 use Rattle.analysis.proofs.Entries.{rightly_judged, of_judged}
-use borrow.Author.Rules.{rules}
 use Rattle.analysis.proofs.analysis_of_set.Goals as goal
 
 pub analysis_of-requires : goal.analysis_of-requires

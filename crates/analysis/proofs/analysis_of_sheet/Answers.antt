@@ -1,7 +1,6 @@
 -- `analysis_of_sheet` meets its contract.
 use mathlib.Core.Path.{◌∙◌}
 use Rattle.analysis.proofs.Entries.{sheet_admits, of_sheet}
-use borrow.Author.Rules.{rules}
 use Rattle.analysis.proofs.analysis_of_sheet.Goals as goal
 
 pub analysis_of-requires : goal.analysis_of-requires

@@ -6,7 +6,6 @@ use Rattle.sheet.specs.declared.Answer.{Answer}
 use Rattle.admission.proofs.Answers.{judged_tells}
 use Rattle.analysis.specs.Misses.{miss_of, set_miss}
 use Rattle.analysis.proofs.Entries.{judged_is}
-use borrow.Author.Rules.{rules}
 use Rattle.analysis.proofs.missed_frame.Goals as goal
 
 pub admitted_miss-requires : goal.admitted_miss-requires

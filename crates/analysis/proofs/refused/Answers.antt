@@ -1,6 +1,5 @@
 -- `refused` meets its contract.
 use Rattle.analysis.specs.Answers.{refused_analysis}
-use borrow.Author.Rules.{rules}
 use Rattle.analysis.proofs.refused.Goals as goal
 
 pub returns : goal.returns

@@ -2,7 +2,6 @@
 use mathlib.Core.Path.{sym, ap, ◌∙◌}
 use Prim.Native.Nat.{ℕ, ◌+◌, ◌*◌}
 use Rattle.analysis.specs.Answers.{misses_from, blockers, code}
-use borrow.Author.Rules.{rules}
 use Rattle.analysis.proofs.Outcome.code.Goals as goal
 
 pub returns-in-Missed : goal.returns-in-Missed

@@ -1,12 +1,9 @@
 -- `deliver` meets its contract: after p places the times of these stand at their numbers.
-use mathlib.Core.Path.{◌≡◌, refl}
+use mathlib.Core.Path.{◌≡◌}
 use Prim.Native.Nat.{◌≤◌, ◌-◌, ◌*◌}
-use native.Mathlib.Omega.{arith}
 use lib.ListN.{length}
 use Rattle.sheet.specs.Constants.{most_frames}
-use Rattle.analysis.proofs.ByNumber.{none_stands}
-use Rattle.analysis.proofs.Delivered.{AtNumbers, number_below, no_room, numbers_more, all_numbers}
-use borrow.Author.Rules.{rules}
+use Rattle.analysis.proofs.Delivered.{AtNumbers}
 use Rattle.analysis.proofs.delivery.deliver.Given as goal
 
 abbrev pub invariant-loop-p : goal.invariant-loop-p

@@ -1,9 +1,8 @@
 -- `put_times` meets its contract: after k turns the first k of the times stand.
-use mathlib.Core.Path.{◌≡◌, ap, ◌∙◌}
-use Prim.Native.Nat.{◌+◌, ◌≤◌, ◌-◌}
+use mathlib.Core.Path.{ap, ◌∙◌}
 use native.Mathlib.Omega.{arith}
 use lib.ListN.{length}
-use Rattle.analysis.proofs.ByNumber.{put, none_put, length_put, put_more, all_put}
+use Rattle.analysis.proofs.ByNumber.{none_put, length_put, put_more, all_put}
 use Rattle.sheet.specs.Constants.{most_frames}
 use borrow.Author.Rules.{rules}
 use Rattle.analysis.proofs.delivery.put_times.Goals as goal

@@ -1,11 +1,9 @@
 -- `put_times` meets its contract: after k turns the first k of the times stand.
-use mathlib.Core.Path.{◌≡◌, ap, ◌∙◌}
+use mathlib.Core.Path.{◌≡◌}
 use Prim.Native.Nat.{◌+◌, ◌≤◌, ◌-◌}
-use native.Mathlib.Omega.{arith}
 use lib.ListN.{length}
-use Rattle.analysis.proofs.ByNumber.{put, none_put, length_put, put_more, all_put}
+use Rattle.analysis.proofs.ByNumber.{put}
 use Rattle.sheet.specs.Constants.{most_frames}
-use borrow.Author.Rules.{rules}
 use Rattle.analysis.proofs.delivery.put_times.Given as goal
 
 abbrev pub invariant-loop-k : goal.invariant-loop-k

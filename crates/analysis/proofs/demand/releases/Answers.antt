@@ -2,7 +2,6 @@
 use Prim.Native.Nat.{◌-◌}
 use native.Mathlib.Nat.{div-le_self}
 use native.Mathlib.Omega.{arith}
-use borrow.Author.Rules.{rules}
 use Rattle.analysis.proofs.Tallies.{releases_are}
 use Rattle.analysis.proofs.demand.releases.Goals as goal
 

@@ -1,14 +1,9 @@
 -- `tally_of` meets its contract: after n frames, the sums of the first 0 to n frames stand.
-use mathlib.Core.Path.{◌≡◌, refl}
-use Prim.Native.Nat.{ℕ, ◌+◌, ◌-◌, ◌≤◌, ◌<◌, ◌^◌}
-use native.Mathlib.Omega.{arith}
-use lib.ListN.{length, get_or}
-use mir.Syntax.{w32}
-use mir.Val.{Fits}
-use borrow.Author.Rules.{rules}
+use mathlib.Core.Path.{◌≡◌}
+use Prim.Native.Nat.{◌-◌, ◌≤◌}
+use lib.ListN.{length}
 use Rattle.sheet.specs.Constants.{most_frames}
-use Rattle.sheet.proofs.Records.{frames_counted}
-use Rattle.analysis.proofs.Tallies.{FirstSums, first_none, first_more, tally_made}
+use Rattle.analysis.proofs.Tallies.{FirstSums}
 use Rattle.analysis.proofs.demand.tally_of.Given as goal
 
 abbrev pub invariant-loop-n : goal.invariant-loop-n

@@ -1,16 +1,9 @@
 -- `finding_of` meets its contract: the frames before frame k are looked at, and each has a response time.
-use mathlib.Core.Path.{sym, ap, ◌∙◌}
-use Prim.Native.Nat.{◌≤◌, ◌<◌, ◌-◌}
-use native.Mathlib.Omega.{arith}
-use borrow.Author.Tests.{not-true, not-false}
-use Rattle.theory.specs.Tasks.{frame_count}
+use Prim.Native.Nat.{◌≤◌, ◌-◌}
 use Rattle.sheet.specs.Constants.{most_frames}
 use Rattle.sheet.specs.Tasks.{task_in}
-use Rattle.sheet.proofs.Records.{frames_few}
 use Rattle.analysis.specs.Inside.Demand.{Tallies}
-use Rattle.analysis.specs.Inside.Response.{is_there}
-use Rattle.analysis.proofs.ByPlace.{Looked, none_looked, one_looked, finding_there, finding_never}
-use borrow.Author.Rules.{rules}
+use Rattle.analysis.proofs.ByPlace.{Looked}
 use Rattle.analysis.proofs.findings.finding_of.Given as goal
 
 abbrev pub invariant-loop-k : goal.invariant-loop-k

@@ -1,9 +1,6 @@
 -- `respond` meets its contract: before each round the demand is more at every earlier time.
-use Prim.Native.Nat.{suc, ◌-◌, ◌≤◌}
 use native.Mathlib.Omega.{arith}
-use borrow.Author.Rules.{rules}
-use Rattle.analysis.specs.Inside.Demand.{Tallies}
-use Rattle.analysis.proofs.Rounds.{NotBefore, not_before_first, not_before_demand, found, never}
+use Rattle.analysis.proofs.Rounds.{not_before_first, not_before_demand, found, never}
 use Rattle.analysis.proofs.response.respond.Goals as goal
 
 pub loop-x-init : goal.loop-x-init

@@ -1,9 +1,7 @@
 -- `respond` meets its contract: before each round the demand is more at every earlier time.
 use Prim.Native.Nat.{suc, ◌-◌, ◌≤◌}
-use native.Mathlib.Omega.{arith}
-use borrow.Author.Rules.{rules}
 use Rattle.analysis.specs.Inside.Demand.{Tallies}
-use Rattle.analysis.proofs.Rounds.{NotBefore, not_before_first, not_before_demand, found, never}
+use Rattle.analysis.proofs.Rounds.{NotBefore}
 use Rattle.analysis.proofs.response.respond.Given as goal
 
 abbrev pub invariant-loop-x : goal.invariant-loop-x

@@ -1,11 +1,8 @@
 -- `missed` meets its contract: the place and its blocker's place are places of the set.
 use mathlib.Core.Path.{sym, ◌∙◌}
-use Prim.Native.Nat.{◌≤◌}
 use native.Mathlib.Omega.{arith}
-use lib.ListN.{length}
 use Rattle.sheet.specs.Constants.{most_tasks}
 use Rattle.sheet.proofs.Records.{mapped_length}
-use Rattle.order.specs.Ordered.{tasks_in_order}
 use Rattle.analysis.proofs.InUse.{tasks_room}
 use Rattle.analysis.proofs.Missed.{blocker_below, missed_by, missed_alone}
 use borrow.Author.Rules.{rules}
