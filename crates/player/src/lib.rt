@@ -1,4 +1,6 @@
 // The player: the play of a run script, tick by tick, and what each tick shows.
+#![tactic(auto)]
+
 ghost use Rattle.std.specs.Prelude.{◌≡◌};
 ghost use Rattle.player.specs.Refusals.{play_number_of};
 ghost use Rattle.player.specs.Answers.{played, traced, trace_left};

@@ -1,4 +1,5 @@
 // Run scripts: one release of a script. What a script stands for and how its play ends is in specs/, the theorems are in proofs/.
+#![tactic(auto)]
 
 // One release: its task by number, its tick, the work of the job, and the length of the stretch that each unlocked pick of the job starts.
 #[derive(Clone, Copy)]

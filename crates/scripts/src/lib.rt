@@ -1,4 +1,6 @@
 // Run scripts in bytes: read and judged where they lie, and put into lent bytes field by field.
+#![tactic(auto)]
+
 ghost use Rattle.std.specs.Prelude.{true, map, ◌≡◌, ◌-◌, ◌≤◌, ◌<◌, take};
 ghost use Rattle.std.proofs.Math.Option.{none};
 ghost use Rattle.bits.specs.Faces.{taken};

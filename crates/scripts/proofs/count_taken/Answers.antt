@@ -3,7 +3,6 @@ use mathlib.Core.Path.{refl, sym, ◌∙◌}
 use native.Mathlib.Omega.{arith}
 use lib.Seq.{length-take-le}
 use Rattle.scripts.proofs.Made.{count_where}
-use borrow.Author.Rules.{rules}
 use Rattle.scripts.proofs.count_taken.Goals as goal
 
 pub slice_bounds-take_field-end : goal.slice_bounds-take_field-end

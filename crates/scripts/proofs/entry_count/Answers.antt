@@ -1,6 +1,5 @@
 -- `entry_count` meets its contract.
 use Rattle.scripts.proofs.Made.{counted, uncounted}
-use borrow.Author.Rules.{rules}
 use Rattle.scripts.proofs.entry_count.Goals as goal
 
 pub returns-in-Value : goal.returns-in-Value

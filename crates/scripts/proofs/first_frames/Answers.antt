@@ -4,7 +4,6 @@ use native.Mathlib.Omega.{arith}
 use lib.ListN.{length}
 use lib.Seq.{length-take-le}
 use Rattle.scripts.proofs.Entries.{firsts_taken}
-use borrow.Author.Rules.{rules}
 use Rattle.scripts.proofs.first_frames.Goals as goal
 
 pub slice_bounds-take_row-end : goal.slice_bounds-take_row-end

@@ -1,5 +1,4 @@
 -- `judge` meets its contract, whatever the set and the bytes are.
-use mathlib.Core.Bool.{true}
 use mathlib.Core.List.{List, map}
 use mathlib.Core.Path.{◌≡◌, sym, ap, ◌∙◌}
 use native.Mathlib.Omega.{arith}
@@ -10,7 +9,6 @@ use Rattle.sheet.specs.Tasks.{task_in, records_of}
 use Rattle.sheet.specs.declared.Task.{Task as Record}
 use Rattle.sheet.proofs.Records.{mapped_length, records_used}
 use Rattle.order.proofs.Below.{in_use_length}
-use Rattle.scripts.specs.Reading.{well_made}
 use Rattle.scripts.specs.Judging.{judgement}
 use Rattle.scripts.proofs.Entries.{firsts_in_slots, firsts_there}
 use Rattle.scripts.proofs.Whole.{sound_row, never_malformed, malformed, firsts_decide, entries_decide}

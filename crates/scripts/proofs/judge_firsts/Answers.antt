@@ -1,15 +1,12 @@
 -- `judge_firsts` meets its contract: the first frames from i on decide.
-use mathlib.Core.List.{map}
 use mathlib.Core.Path.{◌≡◌, refl, sym, ◌∙◌}
-use Prim.Native.Nat.{◌-◌, ◌≤◌}
+use Prim.Native.Nat.{◌≤◌}
 use native.Mathlib.Omega.{arith}
 use borrow.Author.Rules.{rules}
-use lib.ListN.{length, take, drop}
+use lib.ListN.{length}
 use Rattle.sheet.specs.Constants.{most_tasks}
-use Rattle.sheet.specs.Tasks.{task_in, no_record}
+use Rattle.sheet.specs.Tasks.{no_record}
 use Rattle.sheet.proofs.Records.{mapped_length}
-use Rattle.plays.specs.Items.{first_frame_checks}
-use Rattle.scripts.specs.Judging.{judged}
 use Rattle.scripts.proofs.Walk.{slot_wrong, slot_right, slots_end}
 use Rattle.scripts.proofs.judge_firsts.Goals as goal
 

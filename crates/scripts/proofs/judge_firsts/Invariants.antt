@@ -1,16 +1,11 @@
 -- `judge_firsts` meets its contract: the first frames from i on decide.
 use mathlib.Core.List.{map}
-use mathlib.Core.Path.{◌≡◌, refl, sym, ◌∙◌}
+use mathlib.Core.Path.{◌≡◌}
 use Prim.Native.Nat.{◌-◌, ◌≤◌}
-use native.Mathlib.Omega.{arith}
-use borrow.Author.Rules.{rules}
-use lib.ListN.{length, take, drop}
-use Rattle.sheet.specs.Constants.{most_tasks}
-use Rattle.sheet.specs.Tasks.{task_in, no_record}
-use Rattle.sheet.proofs.Records.{mapped_length}
+use lib.ListN.{take, drop}
+use Rattle.sheet.specs.Tasks.{task_in}
 use Rattle.plays.specs.Items.{first_frame_checks}
 use Rattle.scripts.specs.Judging.{judged}
-use Rattle.scripts.proofs.Walk.{slot_wrong, slot_right, slots_end}
 use Rattle.scripts.proofs.judge_firsts.Given as goal
 
 abbrev pub invariant-loop-i : goal.invariant-loop-i

@@ -1,7 +1,6 @@
 -- `script_width` meets its contract.
 use native.Mathlib.Omega.{arith}
 use Rattle.scripts.proofs.Widths.{width_is}
-use borrow.Author.Rules.{rules}
 use Rattle.scripts.proofs.script_width.Goals as goal
 
 pub returns : goal.returns

@@ -3,7 +3,6 @@ use mathlib.Core.Path.{ap, ◌∙◌}
 use native.Mathlib.Omega.{arith}
 use lib.Dec.{leb}
 use Rattle.scripts.proofs.Turns.{lock_above, out_of_order, too_early, work_decides}
-use borrow.Author.Rules.{rules}
 use Rattle.scripts.proofs.sound.Goals as goal
 
 pub returns-then-task-entry : goal.returns-then-task-entry

@@ -1,6 +1,5 @@
 -- `standing` meets its contract.
 use mathlib.Core.Path.{refl}
-use borrow.Author.Rules.{rules}
 use Rattle.plays.specs.Items.{standing}
 use Rattle.scripts.proofs.standing.Goals as goal
 

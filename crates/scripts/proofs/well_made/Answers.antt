@@ -3,7 +3,6 @@ use mathlib.Core.Path.{sym, ◌∙◌}
 use native.Mathlib.Omega.{arith}
 use lib.Seq.{length-take-le}
 use Rattle.scripts.proofs.Made.{rest_where, not_made, wrong_size, byte_left, bit_set, seal_decides}
-use borrow.Author.Rules.{rules}
 use Rattle.scripts.proofs.well_made.Goals as goal
 
 pub returns-in_default : goal.returns-in_default
