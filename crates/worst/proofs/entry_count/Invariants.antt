@@ -1,0 +1,15 @@
+-- `entry_count` meets its contract: the entries of the tasks before task i are counted.
+use mathlib.Core.Path.{◌≡◌, ◌∙◌}
+use Prim.Native.Nat.{◌+◌, ◌≤◌, ◌-◌}
+use native.Mathlib.Omega.{arith}
+use Rattle.sheet.specs.Constants.{most_tasks}
+use Rattle.worst.specs.Inside.Plans.{count_to}
+use Rattle.worst.proofs.Counts.{count_more, count_small, count_none, all_counted}
+use borrow.Author.Rules.{rules}
+use Rattle.worst.proofs.entry_count.Given as goal
+
+abbrev pub invariant-loop-i : goal.invariant-loop-i
+invariant-loop-i l = (l.i ≤ l.plan.count) × (l.plan.count ≤ most_tasks) × (l.total ≡ count_to l.plan l.i)
+
+abbrev pub decreases-loop-i : goal.decreases-loop-i
+decreases-loop-i l = l.plan.count - l.i
