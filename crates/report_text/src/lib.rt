@@ -1,4 +1,6 @@
 // The report: a proved function from a sheet's bytes to the report's text.
+#![tactic(auto)]
+
 ghost use Rattle.std.specs.Prelude.{[], ◌∷◌, ◌++◌, map, ◌≡◌, ◌+◌, ◌*◌, ◌≤◌, ◌<◌, length};
 ghost use Rattle.sheet.specs.Constants.{most_tasks};
 ghost use Rattle.report_text.specs.Words.{decimal, line};
