@@ -18,5 +18,3 @@ pub mod Played
 pub mod Plays
 pub mod Worst
 pub mod WorstRuns
-pub mod Forwarded
-pub mod ForwardedTold

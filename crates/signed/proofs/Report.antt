@@ -241,8 +241,8 @@ module _ (policy : ℕ) (tasks : List Task) (why : Refusal) where
       subst (ReportSigned policy tasks refusal_line) (sym refusing) ((refusal_range why).0, few, line_of_words (Refused why) (length tasks))
 
 pub report_promised : (policy : ℕ) (tasks : List Task) (text : List ℕ) → Reported policy tasks text → ReportSigned policy tasks text (said_in (words_in text))
-report_promised policy tasks text (no_report why few) = refusal_signed policy tasks why few
-report_promised policy tasks text (is_reported sound) = text_signed policy tasks sound
+report_promised policy tasks _ (no_report why few) = refusal_signed policy tasks why few
+report_promised policy tasks _ (is_reported sound) = text_signed policy tasks sound
 
 -- the text in lent bytes
 pub printed_signed : (sheet before : List ℕ) {answer : Written} {after : List ℕ} → Printed sheet before answer after

@@ -1,5 +1,7 @@
 // What we sign for, of the functions themselves: each calls one entry, and its contract is the theorem, or for a lent list of records that the
 // call is one of which the theorems speak. They are proved and never called.
+#![tactic(auto)]
+
 ghost use Rattle.std.specs.Prelude.{map, take};
 ghost use Rattle.sheet.specs.Tasks.{task_in};
 ghost use Rattle.sheet.specs.Reading.{policy_of, tasks_of};
