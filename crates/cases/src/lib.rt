@@ -1,1 +1,2 @@
 // No code: cases A to O as a table in specs/, and the statement over it in proofs/.
+#![tactic(auto)]

@@ -1,4 +1,6 @@
 // C faces of the leaves, through which programs beside the proofs compare bits and check word with their own.
+#![tactic(auto)]
+
 ghost use Rattle.std.specs.Prelude.{◌≡◌, leb, length};
 ghost use Rattle.bits.specs.Faces.{taken, fits, stored};
 ghost use Rattle.check_word.specs.Division.{word_size, check_word, sealed, with_seal};

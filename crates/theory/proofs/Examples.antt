@@ -7,7 +7,6 @@ use mathlib.Core.Path.{◌≡◌, refl}
 use Prim.Native.Nat.{ℕ, zero, suc, ◌≤◌, ◌<◌}
 use native.Mathlib.Omega.{arith}
 use lib.Dec.{eqb, lit<, lit≤}
-use lib.ListN.{length}
 use Rattle.theory.specs.First.{first, every, found}
 use Rattle.theory.specs.Tasks.{Task, task_at, frame_count, next_frame, frame, deadline_of, work, largest, largest_frame, qualifies, start_frame, Admitted}
 use Rattle.theory.specs.Reason.{exceeds, exceeding, exceeded, exceeded_length, exceeding_frame}

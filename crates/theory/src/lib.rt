@@ -1,1 +1,2 @@
 // No code: definitions in specs/, theorems in proofs/.
+#![tactic(auto)]
