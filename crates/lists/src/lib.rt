@@ -1,5 +1,7 @@
 // The workbench's lists of task records: a lent list gathered into a set by value, a set scattered into a lent list,
 // and over these two the calls that read into, write and analyse a lent list.
+#![tactic(auto)]
+
 ghost use Rattle.std.specs.Prelude.{◌≡◌, ◌<◌, get_or};
 ghost use Rattle.sheet.specs.Constants.{most_tasks};
 ghost use Rattle.sheet.specs.Tasks.{no_record};
