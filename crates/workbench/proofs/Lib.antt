@@ -2,5 +2,3 @@
 pub mod Four
 pub mod Answers
 pub mod Small
-pub mod Numbered
-pub mod NumberedTold

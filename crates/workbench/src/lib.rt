@@ -1,4 +1,6 @@
-// Every entry for C. `burrbeech_check_sheet` answers as the scope says; each other entry is a call that Rattle has too, and answers its number.
+// Every entry for C, which `workbench_c` gives to C. `burrbeech_check_sheet` answers as the scope says; each other entry is a call that Rattle has too, and answers its number.
+#![tactic(auto)]
+
 ghost use Rattle.std.specs.Prelude.{◌++◌, ◌≡◌, ◌+◌, ◌*◌, ◌^◌, ◌≤◌, ◌<◌, length, take, drop};
 ghost use Rattle.bits.specs.Packed.{digits, bytes_of};
 ghost use Rattle.lent.specs.Lent.{laid};
@@ -59,8 +61,7 @@ fn put_times(a: Analysis, bytes: &mut [u8])
 }
 
 // Analyses the sheet: 0 for holds, 1 to 12 for a refusal, 100 + 17p + b for a miss of task p with blocker b (16 for none).
-#[unsafe(no_mangle)]
-pub extern "C" fn burrbeech_check_sheet(sheet: &[u8], times: &mut [u8]) -> u32
+pub fn burrbeech_check_sheet(sheet: &[u8], times: &mut [u8]) -> u32
     ensures { (result ≡ entry_number sheet.now times.old) × (times.new ≡ entry_left sheet.now times.old) }
 {
     let a = analysis::analysis_of_sheet(sheet);
@@ -166,77 +167,63 @@ fn worst_number(worst: Worst) -> u64
 }
 
 // A sheet read into the workbench's own records.
-#[unsafe(no_mangle)]
-pub extern "C" fn burrbeech_read_list(sheet: &[u8], list: &mut [Task]) -> u64
+pub fn burrbeech_read_list(sheet: &[u8], list: &mut [Task]) -> u64
     ensures { (result ≡ read_number (list_read sheet.now list.old)) × (list.new ≡ list_filled sheet.now list.old) }
 {
     read_number(lists::read_list(sheet, list))
 }
 
 // The workbench's own records written to a sheet of that version.
-#[unsafe(no_mangle)]
-pub extern "C" fn burrbeech_write_list(
-    version: u32,
-    policy: u32,
-    list: &[Task],
-    sheet: &mut [u8],
-) -> u64
+pub fn burrbeech_write_list(version: u32, policy: u32, list: &[Task], sheet: &mut [u8]) -> u64
     ensures { (result ≡ written_number (list_written version policy list.now sheet.old)) × (sheet.new ≡ list_left version policy list.now sheet.old) }
 {
     written_number(lists::write_list(version, policy, list, sheet))
 }
 
 // A sheet of the other version converted to this one.
-#[unsafe(no_mangle)]
-pub extern "C" fn burrbeech_convert(version: u32, sheet: &[u8], out: &mut [u8]) -> u64
+pub fn burrbeech_convert(version: u32, sheet: &[u8], out: &mut [u8]) -> u64
     ensures { (result ≡ written_number (converted version sheet.now out.old)) × (out.new ≡ converted_left version sheet.now out.old) }
 {
     written_number(converter::convert(version, sheet, out))
 }
 
 // The workbench's own records analysed, the times to lent numbers.
-#[unsafe(no_mangle)]
-pub extern "C" fn burrbeech_analyse_list(policy: u32, list: &[Task], times: &mut [u32]) -> u64
+pub fn burrbeech_analyse_list(policy: u32, list: &[Task], times: &mut [u32]) -> u64
     ensures { (result ≡ decision_number (list_analysed policy list.now times.old)) × (times.new ≡ list_times policy list.now times.old) }
 {
     decision_number(lists::analyse_list(policy, list, times))
 }
 
 // A sheet analysed, the times to lent numbers.
-#[unsafe(no_mangle)]
-pub extern "C" fn burrbeech_analyse_sheet(sheet: &[u8], times: &mut [u32]) -> u64
+pub fn burrbeech_analyse_sheet(sheet: &[u8], times: &mut [u32]) -> u64
     ensures { (result ≡ decision_number (sheet_decision sheet.now times.old)) × (times.new ≡ sheet_left sheet.now times.old) }
 {
     decision_number(analysis::analyse_sheet(sheet, times))
 }
 
 // The report on a sheet, admitted or not, its text to lent bytes.
-#[unsafe(no_mangle)]
-pub extern "C" fn burrbeech_report(sheet: &[u8], text: &mut [u8]) -> u64
+pub fn burrbeech_report(sheet: &[u8], text: &mut [u8]) -> u64
     ensures { (result ≡ written_number (report_written sheet.now text.old)) × (text.new ≡ report_left sheet.now text.old) }
 {
     written_number(report_text::write_report(sheet, text))
 }
 
 // The play of a script for a sheet.
-#[unsafe(no_mangle)]
-pub extern "C" fn burrbeech_play(sheet: &[u8], script: &[u8]) -> u64
+pub fn burrbeech_play(sheet: &[u8], script: &[u8]) -> u64
     ensures { result ≡ played_number (played sheet.now script.now) }
 {
     played_number(player::play(sheet, script))
 }
 
 // The same play, and a byte for each tick of it to lent bytes.
-#[unsafe(no_mangle)]
-pub extern "C" fn burrbeech_trace(sheet: &[u8], script: &[u8], ticks: &mut [u8]) -> u64
+pub fn burrbeech_trace(sheet: &[u8], script: &[u8], ticks: &mut [u8]) -> u64
     ensures { (result ≡ played_number (traced sheet.now script.now ticks.old)) × (ticks.new ≡ trace_left sheet.now script.now ticks.old) }
 {
     played_number(player::trace(sheet, script, ticks))
 }
 
 // The worst run of a set that misses, written as a script.
-#[unsafe(no_mangle)]
-pub extern "C" fn burrbeech_worst_run(sheet: &[u8], script: &mut [u8]) -> u64
+pub fn burrbeech_worst_run(sheet: &[u8], script: &mut [u8]) -> u64
     ensures { (result ≡ worst_number (worst_answer sheet.now script.old)) × (script.new ≡ worst_left sheet.now script.old) }
 {
     worst_number(worst::worst_run(sheet, script))

@@ -1,0 +1,6 @@
+-- `burrbeech_convert` meets its contract.
+use Rattle.workbench.proofs.Small.{converted_small}
+use Rattle.workbench.proofs.burrbeech_convert.Goals as goal
+
+pub written_number-requires : goal.written_number-requires
+written_number-requires c = rw c.convert.ensures.0 (converted_small _ _ _)

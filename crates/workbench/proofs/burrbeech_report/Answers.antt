@@ -1,0 +1,6 @@
+-- `burrbeech_report` meets its contract.
+use Rattle.workbench.proofs.Small.{report_small}
+use Rattle.workbench.proofs.burrbeech_report.Goals as goal
+
+pub written_number-requires : goal.written_number-requires
+written_number-requires c = rw c.write_report.ensures.0 (report_small _ _)

@@ -1,0 +1,6 @@
+-- `burrbeech_trace` meets its contract.
+use Rattle.workbench.proofs.Small.{trace_small}
+use Rattle.workbench.proofs.burrbeech_trace.Goals as goal
+
+pub played_number-requires : goal.played_number-requires
+played_number-requires c = rw c.trace.ensures.0 (trace_small _ _ _)

@@ -1,0 +1,6 @@
+-- `burrbeech_worst_run` meets its contract.
+use Rattle.workbench.proofs.Small.{worst_small}
+use Rattle.workbench.proofs.burrbeech_worst_run.Goals as goal
+
+pub worst_number-requires : goal.worst_number-requires
+worst_number-requires c = rw c.worst_run.ensures.0 (worst_small _ _)

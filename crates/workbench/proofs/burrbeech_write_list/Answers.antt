@@ -1,0 +1,6 @@
+-- `burrbeech_write_list` meets its contract.
+use Rattle.workbench.proofs.Small.{written_small}
+use Rattle.workbench.proofs.burrbeech_write_list.Goals as goal
+
+pub written_number-requires : goal.written_number-requires
+written_number-requires c = rw c.write_list.ensures.0 (written_small _ _ _ _)

@@ -1,0 +1,7 @@
+-- `put_task_times` meets its contract: after k times, these stand from the position on.
+use mathlib.Core.Path.{◌≡◌}
+use Rattle.workbench.proofs.Four.{fours}
+use Rattle.workbench.proofs.put_task_times.Given as goal
+
+abbrev pub invariant-loop-k : goal.invariant-loop-k
+invariant-loop-k l = l.bytes ≡ fours l.initial.bytes l.at l.times l.k

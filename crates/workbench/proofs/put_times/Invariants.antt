@@ -1,0 +1,6 @@
+-- `put_times` meets its contract: after p places the times of these stand at their numbers.
+use Rattle.workbench.proofs.Four.{AtNumbers}
+use Rattle.workbench.proofs.put_times.Given as goal
+
+abbrev pub invariant-loop-p : goal.invariant-loop-p
+invariant-loop-p l = AtNumbers l.a l.initial.bytes l.bytes l.p
