@@ -6,7 +6,7 @@ use native.Mathlib.Nat.{div-one, add-zero}
 use native.Mathlib.Numerals.{add-one, towards_suc}
 use native.Mathlib.Omega.{arith}
 use lib.Dec.{lit<}
-use lib.ListN.{length, get_or, take, drop, set, length-append, take-append-drop}
+use lib.ListN.{length, get_or, take, drop, set, length-append, length-take, length-drop, take-append-drop}
 use lib.Seq.{sets-eq, take-suc, take_all, length-take-le}
 use Rattle.bits.specs.Packed.{digits, bytes_of}
 use Rattle.bits.proofs.Fields.{rows_behind}
@@ -62,6 +62,10 @@ module _ (d : List ℕ) (at : ℕ) (xs : List ℕ) where
   pub none_put : d ≡ fours 0
   unfolding fours as_bytes
   none_put = rw (append-nil (take at d), add-zero at) (sym (take-append-drop at d))
+
+  pub length_fours : (i : ℕ) → i ≤ length xs → at + 4 * i ≤ length d → length (fours i) ≡ length d
+  unfolding fours
+  length_fours i h l = simp (length-append, length_four, length-take, length-drop) (omega arith)
 
   pub fours_more : (i : ℕ) → i < length xs → at + 4 * (i + 1) ≤ length d
       → take (at + 4 * i) (fours i) ++ bytes_of 4 (digits 32 (get_or xs i 0)) ++ drop (at + 4 * i + 4) (fours i) ≡ fours (i + 1)
