@@ -1,8 +1,8 @@
 # make            the libraries and the command: target/lib/libburrbeech.a and .so, target/bin/burrbeech
-# make check      every proof from nothing and every test: .ci/run
+# make check      every proof and every test: .ci/run
 # make install    header, libraries, burrbeech.pc, command and man page, to PREFIX; DESTDIR stands in front of every path
 # make uninstall  takes away what make install put there
-# make clean      removes target/
+# make clean      removes target/ and each crate's out/
 PREFIX ?= /usr/local
 prefix = $(PREFIX)
 bindir = $(prefix)/bin
@@ -40,7 +40,7 @@ command := target/bin/burrbeech
 page := docs/burrbeech.1
 
 # What the archive and the command are made of; folders too, so that a file that was taken away counts.
-proved := $(shell find crates -name must-fail -prune -o -print) crates.txt .ci/toolchain
+proved := $(shell find crates/*/src crates/*/specs crates/*/proofs) crates.txt .ci/toolchain
 glue := $(shell find command -path command/tests -prune -o -name target -prune -o -print)
 
 .PHONY: all check install uninstall clean
@@ -48,10 +48,11 @@ glue := $(shell find command -path command/tests -prune -o -name target -prune -
 
 all: $(archive) target/lib/$(plain) $(command)
 
+# rt builds the crates below by itself.
 $(archive): $(proved)
-	rt staticlib workbench
+	cd crates/workbench_c && rt lib
 	@mkdir -p $(@D)
-	cp target/staticlib/libworkbench.a $@
+	cp crates/workbench_c/out/libworkbench_c.a $@
 
 # The entries and nothing else.
 $(exported): $(header) Makefile
@@ -96,4 +97,4 @@ uninstall:
 	rm -f '$(DESTDIR)$(libdir)/$(plain)' '$(DESTDIR)$(libdir)/$(soname)' '$(DESTDIR)$(libdir)/$(real)'
 
 clean:
-	rm -rf target
+	rm -rf target crates/*/out

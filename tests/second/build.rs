@@ -1,5 +1,5 @@
-// Links the proved code where the feature `proved` asks for it: the library that `make` left, and the leaves' faces as `rt staticlib` left them.
-const ARCHIVES: [(&str, &str); 2] = [("target/lib", "burrbeech"), ("target/staticlib", "outside")];
+// Links the proved code where the feature `proved` asks for it: the library that `make` left, and the leaves' faces as `rt lib` left them.
+const ARCHIVES: [(&str, &str); 2] = [("target/lib", "burrbeech"), ("crates/outside/out", "outside")];
 
 fn main() {
     if std::env::var_os("CARGO_FEATURE_PROVED").is_none() {

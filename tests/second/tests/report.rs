@@ -9,7 +9,7 @@ use std::fs::File;
 use std::io::Write;
 use std::process::{Command, Stdio};
 
-const PROGRAM: &str = concat!(env!("CARGO_MANIFEST_DIR"), "/../../target/bin/report");
+const PROGRAM: &str = concat!(env!("CARGO_MANIFEST_DIR"), "/../../crates/report/out/report");
 const SHEETS: &str = concat!(env!("CARGO_MANIFEST_DIR"), "/../../sheets");
 
 fn proved_report(input: &[u8]) -> String {
