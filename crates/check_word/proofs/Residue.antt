@@ -66,9 +66,12 @@ length_remainder bs = length_divided (length (started bs) - 16) (started bs) ∙
 length_left : (bs : List Bool) → length (remainder (started (bs ++ replicate 16 false))) ≡ 16
 length_left bs = length_remainder (bs ++ replicate 16 false) ∙ rw (length-append bs (replicate 16 false)) (omega arith)
 
+left_lt : (bs : List Bool) → value (remainder (started (bs ++ replicate 16 false))) < 2 ^ 16
+left_lt bs = rw (length_left bs) at (value_lt (remainder (started (bs ++ replicate 16 false))))
+
 pub check_word_lt : (s : List ℕ) → check_word s < 2 ^ 16
 unfolding check_word
-check_word_lt s = rw (length_left (bits_of s)) at (value_lt (remainder (started (bits_of s ++ replicate 16 false))))
+check_word_lt s = left_lt _
 
 -- ---- sealed strings
 
