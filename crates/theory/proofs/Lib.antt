@@ -6,6 +6,7 @@ pub mod Demand
 pub mod Response
 pub mod Places
 pub mod Blocking
+pub mod Passed
 pub mod Verdict
 pub mod Releases
 pub mod Order

@@ -14,6 +14,7 @@ use Rattle.theory.specs.Tasks.{Task, task_at, frame_count, frame, deadline_of}
 use Rattle.theory.specs.Analysis.{lower, blocking, blocker, higher, demand, IsResponse, response, demand_of, response_of, rounds_of, passes, FirstWithout, holds, missed, verdict}
 use Rattle.theory.proofs.Search.{IsFirst, first_some, first_none, every_at, every_is, found_some, found_none, some_found, Answer, answer, nothing, it_is}
 use Rattle.theory.proofs.Work.{frame_mod, deadline_mod}
+use Rattle.theory.proofs.Passed.{asked}
 use Rattle.theory.proofs.Demand.{within_refl, demand_mono, demand_least}
 use Rattle.theory.proofs.Response.{Monotone, response_is, no_response_is, rounds_reach, rounds_pass}
 
@@ -47,10 +48,9 @@ module _ (set : List Task) (p : ℕ) where
 
   -- of a task that passes every frame has a response time
   pub passes_frames : 1 ≤ frame_count (task_at set p) → passes set p ≡ true → (k : ℕ) → (t : ℕ) × (response_of set p k ≡ some t)
-  unfolding passes
   passes_frames h e k =
       let m = frame_count (task_at set p) in
-      let (t, r) = found_some (every_at 0 m (λ j. found (response_of set p j)) e (k % m) zero-le (omega (arith, mod-lt k h))) in
+      let (t, r) = found_some (every_at 0 m (λ j. found (response_of set p j)) (asked set p e) (k % m) zero-le (omega (arith, mod-lt k h))) in
       (t, sym (response_of_mod k) ∙ r)
 
   pub passes_if : ((k : ℕ) → k < frame_count (task_at set p) → (t : ℕ) × (response_of set p k ≡ some t)) → passes set p ≡ true
