@@ -74,14 +74,14 @@ stretch_in s = stretch_now s.to_come (stretch_by (get_or s.lock s.picked 0))
 -- the tick given to the task picked
 abbrev pub served : Player → Player
 served s =
-    let left_After = pred (get_or s.left s.picked 0) in
+    let left_after = pred (get_or s.left s.picked 0) in
     record {
-      left = set s.left s.picked left_After;
+      left = set s.left s.picked left_after;
       due = s.due;
       lock = s.lock;
       soonest = s.soonest;
       picked = s.picked;
-      to_come = stretch_after left_After (stretch_in s);
+      to_come = stretch_after left_after (stretch_in s);
     }
 
 -- the state after the tick: an idle one changes nothing
