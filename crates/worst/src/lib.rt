@@ -1,4 +1,6 @@
 // The worst run of a missed set, written as a run script.
+#![tactic(auto)]
+
 ghost use Rattle.std.specs.Prelude.{map, ◌≡◌, ◌+◌, ◌≤◌, ◌<◌, length};
 ghost use Rattle.theory.specs.Tasks.{frame_count};
 ghost use Rattle.lent.specs.Lent.{answered, left_after};

@@ -1,11 +1,8 @@
 -- `entry_count` meets its contract: the entries of the tasks before task i are counted.
-use mathlib.Core.Path.{◌≡◌, ◌∙◌}
-use Prim.Native.Nat.{◌+◌, ◌≤◌, ◌-◌}
-use native.Mathlib.Omega.{arith}
+use mathlib.Core.Path.{◌≡◌}
+use Prim.Native.Nat.{◌≤◌, ◌-◌}
 use Rattle.sheet.specs.Constants.{most_tasks}
 use Rattle.worst.specs.Inside.Plans.{count_to}
-use Rattle.worst.proofs.Counts.{count_more, count_small, count_none, all_counted}
-use borrow.Author.Rules.{rules}
 use Rattle.worst.proofs.entry_count.Given as goal
 
 abbrev pub invariant-loop-i : goal.invariant-loop-i

@@ -1,7 +1,6 @@
 -- `put_entry` puts an entry's row.
 use Rattle.records.proofs.Putting.{row_placed}
 use Rattle.worst.proofs.Putting.{entry_can, entry_placed}
-use borrow.Author.Rules.{rules}
 use Rattle.worst.proofs.put_entry.Goals as goal
 
 pub returns : goal.returns

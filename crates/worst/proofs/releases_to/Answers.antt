@@ -7,7 +7,6 @@ use native.Mathlib.Numerals.{add-one}
 use native.Mathlib.Omega.{arith}
 use borrow.Author.Tests.{lt-ltb, le-ltb}
 use Rattle.worst.specs.Inside.Plans.{releases_to}
-use borrow.Author.Rules.{rules}
 use Rattle.worst.proofs.releases_to.Goals as goal
 
 pub returns-then-end-opens : goal.returns-then-end-opens

@@ -1,6 +1,5 @@
 -- `series_of` meets its contract.
 use Rattle.worst.proofs.Roles.{series_above, series_own, series_blocks, series_absent}
-use borrow.Author.Rules.{rules}
 use Rattle.worst.proofs.series_of.Goals as goal
 
 pub returns-then-q-case : goal.returns-then-q-case

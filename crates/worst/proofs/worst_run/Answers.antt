@@ -9,7 +9,6 @@ use Rattle.analysis.proofs.Entries.{sheet_admits}
 use Rattle.worst.specs.declared.Worst.{Worst}
 use Rattle.worst.specs.declared.Worst.TheVariants.{TurnedAway}
 use Rattle.worst.proofs.Outcomes.{sheet_refused, sheet_answer, call_is, sheet_passed}
-use borrow.Author.Rules.{rules}
 use Rattle.worst.proofs.worst_run.Goals as goal
 
 pub returns-in-Refused : goal.returns-in-Refused

@@ -1,7 +1,6 @@
 -- `write_set` meets its contract.
 use mathlib.Core.Path.{sym, ◌∙◌}
 use Rattle.worst.proofs.Outcomes.{set_holds, set_miss_is}
-use borrow.Author.Rules.{rules}
 use Rattle.worst.proofs.write_set.Goals as goal
 
 pub write_frame-requires : goal.write_frame-requires
