@@ -41,12 +41,6 @@ loop-q-init c =
     let room : length o.tasks ≡ most_tasks = search (rules, mapped_length) in
     (search rules, omega arith, room, none_planned _ _ _)
 
-pub overflow_cast-i : goal.overflow_cast-i
-overflow_cast-i c = record { fits = omega (arith, below c.requires.0 c.in_use-count.ensures c.loop-q.invariant.2 c.loop-q-test.true) }
-
-pub offset_bounds-shapes-i : goal.offset_bounds-shapes-i
-offset_bounds-shapes-i c = record { fits = omega (arith, below c.requires.0 c.in_use-count.ensures c.loop-q.invariant.2 c.loop-q-test.true) }
-
 pub bounds-shapes-i : goal.bounds-shapes-i
 bounds-shapes-i c = below c.requires.0 c.in_use-count.ensures c.loop-q.invariant.2 c.loop-q-test.true
 
@@ -55,26 +49,14 @@ series_of-series-requires c =
     let room = c.loop-q.invariant.2 in
     (c.requires.2, shape_there c.args.o _ c.requires.0 room c.loop-q.q (inside c.requires.0 c.in_use-count.ensures room c.loop-q-test.true))
 
-pub offset_bounds-opens-i : goal.offset_bounds-opens-i
-offset_bounds-opens-i c = record { fits = omega (arith, below c.requires.0 c.in_use-count.ensures c.loop-q.invariant.2 c.loop-q-test.true) }
-
 pub bounds-opens-i : goal.bounds-opens-i
 bounds-opens-i c = below c.requires.0 c.in_use-count.ensures c.loop-q.invariant.2 c.loop-q-test.true
-
-pub offset_bounds-step-i : goal.offset_bounds-step-i
-offset_bounds-step-i c = record { fits = omega (arith, below c.requires.0 c.in_use-count.ensures c.loop-q.invariant.2 c.loop-q-test.true) }
 
 pub bounds-step-i : goal.bounds-step-i
 bounds-step-i c = below c.requires.0 c.in_use-count.ensures c.loop-q.invariant.2 c.loop-q-test.true
 
-pub offset_bounds-next-i : goal.offset_bounds-next-i
-offset_bounds-next-i c = record { fits = omega (arith, below c.requires.0 c.in_use-count.ensures c.loop-q.invariant.2 c.loop-q-test.true) }
-
 pub bounds-next-i : goal.bounds-next-i
 bounds-next-i c = below c.requires.0 c.in_use-count.ensures c.loop-q.invariant.2 c.loop-q-test.true
-
-pub offset_bounds-lock-i : goal.offset_bounds-lock-i
-offset_bounds-lock-i c = record { fits = omega (arith, below c.requires.0 c.in_use-count.ensures c.loop-q.invariant.2 c.loop-q-test.true) }
 
 pub bounds-lock-i : goal.bounds-lock-i
 bounds-lock-i c = below c.requires.0 c.in_use-count.ensures c.loop-q.invariant.2 c.loop-q-test.true

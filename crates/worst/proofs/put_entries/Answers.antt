@@ -1,10 +1,9 @@
 -- `put_entries` meets its contract: the entries before the next one are written.
 use mathlib.Core.List.{List}
 use mathlib.Core.Path.{◌≡◌, refl, ap, ◌∙◌}
-use Prim.Native.Nat.{ℕ, ◌+◌, ◌≤◌, ◌<◌}
+use Prim.Native.Nat.{ℕ, ◌+◌, ◌≤◌}
 use native.Mathlib.Omega.{arith}
 use lib.ListN.{get_or, length-set}
-use Rattle.sheet.specs.Constants.{most_tasks}
 use Rattle.sheet.proofs.Rounds.{next_is}
 use Rattle.worst.specs.declared.Plan.{Plan}
 use Rattle.worst.specs.Inside.Plans.{plan_series, SoundPlan}
@@ -13,10 +12,6 @@ use Rattle.worst.proofs.Standing.{entry_made}
 use Rattle.worst.proofs.Written.{WrittenTo, Written, written_none, written_same, written_opens, written_next, written_all, next_in, entry_fits, entry_room, entry_within, written_more}
 use borrow.Author.Rules.{rules}
 use Rattle.worst.proofs.put_entries.Goals as goal
-
--- the task that is released next is one of sixteen
-below : {plan : Plan} {opens : List ℕ} {i : ℕ} → SoundPlan plan → Soonest opens plan.count i → i < most_tasks
-below sound next = omega (arith, next.in_count, sound.few_tasks)
 
 -- what is known of the next entry
 so_far : {plan : Plan} {b bytes opens next : List ℕ} {at end i tick : ℕ} → SoundPlan plan
@@ -27,90 +22,39 @@ so_far {plan} sound known in_time = written_next plan sound _ _ known.0 known.1 
 pub soonest-i-requires : goal.soonest-i-requires
 soonest-i-requires c = (search rules, c.requires.0.some_task, c.requires.0.few_tasks)
 
-pub offset_bounds-opens-i : goal.offset_bounds-opens-i
-offset_bounds-opens-i c = record { fits = omega (arith, below c.requires.0 c.soonest-i.ensures) }
-
-pub bounds-opens-i : goal.bounds-opens-i
-bounds-opens-i c = below c.requires.0 c.soonest-i.ensures
-
 pub loop-tick-init : goal.loop-tick-init
 loop-tick-init c = (written_none c.args.plan c.requires.0 _ _ (search rules) (search rules), c.soonest-i.ensures, refl)
-
-pub offset_bounds-tasks-i : goal.offset_bounds-tasks-i
-offset_bounds-tasks-i c = record { fits = omega (arith, below c.requires.0 c.loop-tick.invariant.1) }
-
-pub bounds-tasks-i : goal.bounds-tasks-i
-bounds-tasks-i c = below c.requires.0 c.loop-tick.invariant.1
-
-pub offset_bounds-next-i : goal.offset_bounds-next-i
-offset_bounds-next-i c = record { fits = omega (arith, below c.requires.0 c.loop-tick.invariant.1) }
-
-pub bounds-next-i : goal.bounds-next-i
-bounds-next-i c = below c.requires.0 c.loop-tick.invariant.1
-
-pub offset_bounds-locks-i : goal.offset_bounds-locks-i
-offset_bounds-locks-i c = record { fits = omega (arith, below c.requires.0 c.loop-tick.invariant.1) }
-
-pub bounds-locks-i : goal.bounds-locks-i
-bounds-locks-i c = below c.requires.0 c.loop-tick.invariant.1
-
-pub overflow_cast-entry : goal.overflow_cast-entry
-overflow_cast-entry c = record { fits = omega (arith, below c.requires.0 c.loop-tick.invariant.1) }
 
 pub work-requires : goal.work-requires
 work-requires c =
     let known = c.loop-tick.invariant in
-    next_in c.args.plan c.requires.0 _ _ c.requires.1 known.1.in_count (so_far c.requires.0 known c.loop-tick-test.true)
+    next_in c.args.plan c.requires.0 _ _ c.requires.1 known.1.in_count (so_far c.requires.0 known (omega arith))
 
 pub put_entry-end-requires : goal.put_entry-end-requires
 put_entry-end-requires c =
     let plan = c.args.plan in
     let l = c.loop-tick in
     let inside = l.invariant.1.in_count in
-    let written = so_far c.requires.0 l.invariant c.loop-tick-test.true in
+    let written = so_far c.requires.0 l.invariant (omega arith) in
     let made = entry_made plan l.opens l.next l.i _ _ l.invariant.2 c.work.ensures in
     (entry_fits plan c.requires.0 _ _ c.requires.1 inside written _ made, entry_room plan c.requires.0 _ _ c.requires.1 inside written _ made)
-
-pub offset_bounds-steps-i : goal.offset_bounds-steps-i
-offset_bounds-steps-i c = record { fits = omega (arith, below c.requires.0 c.loop-tick.invariant.1) }
-
-pub bounds-steps-i : goal.bounds-steps-i
-bounds-steps-i c = below c.requires.0 c.loop-tick.invariant.1
 
 pub overflow_add-opens : goal.overflow_add-opens
 overflow_add-opens c =
     let series = c.requires.0.each c.loop-tick.i c.loop-tick.invariant.1.in_count in
-    record { fits = omega (arith, c.loop-tick-test.true, c.requires.0.end_fits, series.step_small) }
-
-pub offset_bounds-opens-i-in-loop-tick : goal.offset_bounds-opens-i-in-loop-tick
-offset_bounds-opens-i-in-loop-tick c = record { fits = omega (arith, below c.requires.0 c.loop-tick.invariant.1) }
-
-pub bounds-opens-i-in-loop-tick : goal.bounds-opens-i-in-loop-tick
-bounds-opens-i-in-loop-tick c = below c.requires.0 c.loop-tick.invariant.1
-
-pub offset_bounds-next-i-in-loop-tick : goal.offset_bounds-next-i-in-loop-tick
-offset_bounds-next-i-in-loop-tick c = record { fits = omega (arith, below c.requires.0 c.loop-tick.invariant.1) }
-
-pub bounds-next-i-in-loop-tick : goal.bounds-next-i-in-loop-tick
-bounds-next-i-in-loop-tick c = below c.requires.0 c.loop-tick.invariant.1
+    record { fits = omega (arith, c.requires.0.end_fits, series.step_small) }
 
 pub soonest-i-requires-in-loop-tick : goal.soonest-i-requires-in-loop-tick
 soonest-i-requires-in-loop-tick c =
     let l = c.loop-tick in
     (length-set l.opens l.i _ ∙ written_opens c.args.plan c.requires.0 _ _ l.invariant.0, c.requires.0.some_task, c.requires.0.few_tasks)
 
-pub offset_bounds-opens-i-in-loop-tick-2 : goal.offset_bounds-opens-i-in-loop-tick-2
-offset_bounds-opens-i-in-loop-tick-2 c = record { fits = omega (arith, below c.requires.0 c.soonest-i-in-loop-tick.ensures) }
-
-pub bounds-opens-i-in-loop-tick-2 : goal.bounds-opens-i-in-loop-tick-2
-bounds-opens-i-in-loop-tick-2 c = below c.requires.0 c.soonest-i-in-loop-tick.ensures
-
 pub loop-tick-smaller : goal.loop-tick-smaller
 loop-tick-smaller c =
     let plan = c.args.plan in
     let l = c.loop-tick in
     let inside = l.invariant.1.in_count in
-    let written = so_far c.requires.0 l.invariant c.loop-tick-test.true in
+    let written = so_far c.requires.0 l.invariant (omega arith) in
     let made = entry_made plan l.opens l.next l.i _ _ l.invariant.2 c.work.ensures in
     entry_within plan c.requires.0 _ _ c.requires.1 inside written _ made c.put_entry-end.ensures
 
@@ -119,7 +63,7 @@ loop-tick-preserved c =
     let plan = c.args.plan in
     let l = c.loop-tick in
     let inside = l.invariant.1.in_count in
-    let written = so_far c.requires.0 l.invariant c.loop-tick-test.true in
+    let written = so_far c.requires.0 l.invariant (omega arith) in
     let made = entry_made plan l.opens l.next l.i _ _ l.invariant.2 c.work.ensures in
     let opens_is = ap (λ (x : ℕ). x + (plan_series plan l.i).step) l.invariant.2 in
     let next = c.frame_after.ensures ∙ next_is _ _ (next_in plan c.requires.0 _ _ c.requires.1 inside written) in (
@@ -134,4 +78,4 @@ shape_of-bytes c = written_same c.args.plan c.requires.0 _ _ c.loop-tick.invaria
 pub returns : goal.returns
 returns c =
     let known = c.loop-tick.invariant in
-    written_all c.args.plan c.requires.0 _ _ known.0 known.1 (omega (arith, known.2, c.loop-tick-test.false))
+    written_all c.args.plan c.requires.0 _ _ known.0 known.1 (omega (arith, known.2))

@@ -9,12 +9,6 @@ use Rattle.worst.proofs.soonest.Goals.{then-opens-i, else-opens-i}
 pub loop-i-init : goal.loop-i-init
 loop-i-init c = (search rules, search rules, soonest_one _)
 
-pub offset_bounds-opens-first : goal.offset_bounds-opens-first
-offset_bounds-opens-first c = record { fits = omega (arith, c.loop-i.invariant.2.in_count) }
-
-pub bounds-opens-first : goal.bounds-opens-first
-bounds-opens-first c = omega (arith, c.loop-i.invariant.2.in_count)
-
 pub loop-i-preserved : goal.loop-i-preserved
 loop-i-preserved c =
     let s = c.loop-i.invariant.2 in (

@@ -93,10 +93,10 @@ returns-then-script-size c =
     planned (search (rules, mapped_length)) (search (rules, mapped_length)) (search rules) c.requires.0 c.requires.2
     c.in_order-o.ensures c.blocker_code.ensures c.blocker_of.ensures c.deadline_of.ensures c.plan_for-plan.ensures
     in
-    no_room _ _ _ _ _ c.requires.2 (rw (← size_is h c.entry_count-entries.ensures c.script_size-size.ensures) c.if-script-size.true)
+    no_room _ _ _ _ _ c.requires.2 (rw (← size_is h c.entry_count-entries.ensures c.script_size-size.ensures) (omega arith))
 
 pub slice_bounds-put_script-end-2 : goal.slice_bounds-put_script-end-2
-slice_bounds-put_script-end-2 c = sym (length-take-le _ c.args.script.now c.if-script-size.false)
+slice_bounds-put_script-end-2 c = sym (length-take-le _ c.args.script.now (omega arith))
 
 pub put_script-requires : goal.put_script-requires
 put_script-requires c =
@@ -105,7 +105,7 @@ put_script-requires c =
     c.in_order-o.ensures c.blocker_code.ensures c.blocker_of.ensures c.deadline_of.ensures c.plan_for-plan.ensures
     in
     let counted = c.entry_count-entries.ensures in
-    (h.sound, counted, length-take-le _ c.args.script.now c.if-script-size.false ∙ size_planned h counted c.script_size-size.ensures)
+    (h.sound, counted, length-take-le _ c.args.script.now (omega arith) ∙ size_planned h counted c.script_size-size.ensures)
 
 pub returns : goal.returns
 unfolding laid
@@ -115,7 +115,7 @@ returns c =
     c.in_order-o.ensures c.blocker_code.ensures c.blocker_of.ensures c.deadline_of.ensures c.plan_for-plan.ensures
     in
     let size = size_is h c.entry_count-entries.ensures c.script_size-size.ensures in
-    let d = script_done _ _ c.args.script.now _ _ c.requires.2 (rw (← size) c.if-script-size.false) in (
+    let d = script_done _ _ c.args.script.now _ _ c.requires.2 (rw (← size) (omega arith)) in (
       ap Written size ∙ d.0,
       ap₂ (λ (l : List ℕ) (n : ℕ). l ++ drop n c.args.script.now) (c.put_script.ensures ∙ ap script_of h.script_is) size ∙ d.1,
     )
