@@ -64,11 +64,12 @@ target/lib/$(real): $(archive) $(exported)
 	$(CC) -shared -nostartfiles -Wl,-soname,$(soname) -Wl,--version-script,$(exported) -Wl,-z,defs,-z,text,-z,relro,-z,now \
 		-Wl,--whole-archive $(archive) -Wl,--no-whole-archive $(LDFLAGS) -o $@
 
+# Copies here, since the gate takes no links in a checkout; what is installed has links.
 target/lib/$(soname): target/lib/$(real)
-	ln -sf $(real) $@
+	cp target/lib/$(real) $@
 
 target/lib/$(plain): target/lib/$(soname)
-	ln -sf $(soname) $@
+	cp target/lib/$(soname) $@
 
 $(command): $(archive) $(header) $(glue)
 	$(CARGO) build --release --offline --locked --manifest-path command/Cargo.toml --target-dir target/cargo

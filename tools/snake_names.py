@@ -3,6 +3,8 @@
 
 usage: python3 tools/snake_names.py [--check]      at the top of the repository; --check writes nothing
 
+It ran once, on what the kit's port.py wrote of this repository (docs/PORT.md); on a tree in the new form it would turn the names that Rattle makes too.
+
 A name is turned where it is the repository's own: declared in a file of crates/ (a signature, a field, a constructor, a binder), and not brought in from a library in that file.
 In specs/ and in lemma files every name is, but for what comes from a library. What Rattle makes from the code (goals, steps and their fields) keeps its dashes.
 Turned are the code of .antt files, the clauses of .rt files, both sides of .edit files, and code spans of comments and pages. Names that would fall together in one file are shown.
