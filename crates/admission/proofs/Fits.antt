@@ -1,25 +1,21 @@
 -- A task in range and well formed, read off the tests.
-use mathlib.Core.Bool.{Bool, true, false, So, ◌&&◌, and-eq-true_iff}
+use mathlib.Core.Bool.{true, false, So, ◌&&◌, and-eq-true_iff, true≢false}
 use mathlib.Core.List.{List, [], ◌∷◌}
 use mathlib.Core.Logic.Iff
 use mathlib.Core.Logic.{◌↔◌}
-use mathlib.Core.Path.{◌≡◌, refl}
-use Prim.Native.Nat.{ℕ, suc, ◌≤◌, ◌<◌, zero-le}
+use mathlib.Core.Path.{◌≡◌, refl, sym, ◌∙◌}
+use Prim.Native.Nat.{ℕ, suc, ◌≤◌, ◌<◌}
 use native.Mathlib.Omega.{arith}
 use borrow.Author.Tests.{le-leb}
 use lib.Dec.{leb}
 use lib.ListN.{length, get_or}
-use Rattle.theory.specs.First.{every}
-use Rattle.theory.specs.Tasks.{Task, frame_count}
-use Rattle.theory.proofs.Search.{every_at, every_is}
+use Rattle.theory.specs.Tasks.{Task}
 use Rattle.theory.proofs.Tests.{is_and, is_leb}
-use Rattle.sheet.specs.Constants.{greatest_time, most_frames}
-use Rattle.sheet.specs.Tasks.{task_in}
+use Rattle.sheet.specs.Constants.{greatest_time}
 use Rattle.sheet.specs.Admission.{is_time, in_range, none_above, well_formed}
-use Rattle.sheet.specs.declared.Task.{Task as Record}
 use Rattle.sheet.proofs.InFields.{as_long, below_at}
-use Rattle.sheet.proofs.Records.{as_many_slots, frame_slot, deadline_slot}
-use Rattle.admission.specs.Inside.Frames.{between, all_between}
+use Rattle.admission.specs.Inside.Frames.{all_between}
+use Rattle.admission.proofs.Frames.{all_between_is}
 use Rattle.admission.proofs.Tests.{same_outcome, fails, is_all}
 
 pub record Fits (t : Task) : Type 0 where
@@ -72,41 +68,35 @@ fits_is t =
       ),
     )
 
+-- with the other numbers in order, the frames and deadlines decide
 module _ (t : Task) where
-  pub not_fitting : (Fits t → ⊥) → (in_range t && well_formed t) ≡ false
+  not_fitting : (Fits t → ⊥) → (in_range t && well_formed t) ≡ false
   not_fitting h = fails _ (λ e. h ((fits_is t).0 e))
 
--- one frame
-between_is : (period c d : ℕ) → So (between period c d) ↔ (((1 ≤ c) × (c ≤ d)) × (d ≤ period))
-between_is period c d = is_and (is_and (is_leb 1 c) (is_leb c d)) (is_leb d period)
+  pub not_a_time : is_time t.period ≡ false → (in_range t && well_formed t) ≡ false
+  not_a_time e = not_fitting (λ f. true≢false (sym ((time_is t.period).1 (f.period_positive, f.period_in)) ∙ e))
 
--- with the other numbers in order, the frames and deadlines decide
-pub frames_decide : (r : Record) (n : ℕ) → length r.frames ≡ most_frames → length r.deadlines ≡ most_frames → n ≡ frame_count (task_in r)
-    → 1 ≤ r.period → r.period ≤ greatest_time → r.lock ≤ greatest_time
-    → all_between r.period n r.frames r.deadlines ≡ (in_range (task_in r) && well_formed (task_in r))
-unfolding all_between frame_count task_in
-frames_decide r n frames_room deadlines_room count p top q = same_outcome _ _ there back
-  where
-    test : ℕ → Bool
-    test k = between r.period (get_or r.frames k 0) (get_or r.deadlines k 0)
+  pub long_lock : greatest_time < t.lock → (in_range t && well_formed t) ≡ false
+  long_lock h = not_fitting (λ f. omega (arith, f.lock_in))
 
-    there : every 0 n test ≡ true → (in_range (task_in r) && well_formed (task_in r)) ≡ true
-    there e =
-        (fits_is (task_in r)).1
-        (record {
-          period_positive = p;
-          period_in = top;
-          lock_in = q;
-          as_many = as_many_slots r frames_room deadlines_room;
-          frame_in = λ k l.
-              let x = (between_is r.period (get_or r.frames k 0) (get_or r.deadlines k 0)).0 (every_at 0 n test e k zero-le (omega arith)) in
-              rw (frame_slot r k l, deadline_slot r k l) (x.0.0, x.0.1, x.1);
-        })
+  pub frames_decide : length t.deadlines ≡ length t.frames → is_time t.period ≡ true → t.lock ≤ greatest_time
+      → all_between t.period t.frames t.deadlines ≡ (in_range t && well_formed t)
+  frames_decide many e q = same_outcome _ _ there back
+    where
+      frames_are : So (all_between t.period t.frames t.deadlines)
+          ↔ ((k : ℕ) → k < length t.frames → ((1 ≤ get_or t.frames k 0) × (get_or t.frames k 0 ≤ get_or t.deadlines k 0)) × (get_or t.deadlines k 0 ≤ t.period))
+      frames_are = all_between_is t.period t.frames t.deadlines many
 
-    back : (in_range (task_in r) && well_formed (task_in r)) ≡ true → every 0 n test ≡ true
-    back e =
-        every_is 0 n test (λ k _ l.
-        let here : k < length (task_in r).frames = omega arith in
-        let x = ((fits_is (task_in r)).0 e).frame_in k here in
-        (between_is r.period (get_or r.frames k 0) (get_or r.deadlines k 0)).1
-        (rw (← frame_slot r k here, ← deadline_slot r k here) ((x.0, x.1), x.2)))
+      there : all_between t.period t.frames t.deadlines ≡ true → (in_range t && well_formed t) ≡ true
+      there b =
+          (fits_is t).1
+          (record {
+            period_positive = ((time_is t.period).0 e).0;
+            period_in = ((time_is t.period).0 e).1;
+            lock_in = q;
+            as_many = many;
+            frame_in = λ k l. let x = frames_are.0 b k l in (x.0.0, x.0.1, x.1);
+          })
+
+      back : (in_range t && well_formed t) ≡ true → all_between t.period t.frames t.deadlines ≡ true
+      back b = frames_are.1 (λ k l. let x = ((fits_is t).0 b).frame_in k l in ((x.0, x.1), x.2))

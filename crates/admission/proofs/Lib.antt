@@ -1,7 +1,6 @@
 -- What the answer of the start-frame test says is in StartOrWhy; the rest is what the proofs of the functions cite.
 pub mod Tests
 pub mod Rows
-pub mod Remaining
 pub mod Sums
 pub mod Starts
 pub mod StartOrWhy

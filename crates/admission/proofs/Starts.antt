@@ -1,11 +1,12 @@
 -- The start frame: frame by frame and length by length, and from the frames alone.
-use mathlib.Core.Bool.{Bool, true, false}
-use mathlib.Core.Option.{Option, none, some}
-use mathlib.Core.Path.{◌≡◌, refl, sym, ap, ap₂, fun_ext}
-use Prim.Native.Nat.{ℕ, zero, suc, ◌+◌, ◌-◌, ◌≤◌, ◌<◌}
-use native.Mathlib.Nat.{sub-zero}
-use native.Mathlib.Omega.{arith}
+use Rattle.std.specs.Prelude.{Err, None, Ok, Option, Some}
+use Rattle.std.specs.List.{find, list_all, range_with_len}
+use mathlib.Core.Bool.{Bool}
+use mathlib.Core.Path.{◌≡◌, refl, ap, ap₂, ◌∙◌, fun_ext}
+use Prim.Native.Nat.{ℕ, zero, suc, ◌+◌}
 use lib.Dec.{leb}
+use lib.ListN.{length}
+use mathlib.Core.List.{List}
 use Rattle.theory.specs.First.{first, every, found}
 use Rattle.theory.specs.Tasks.{Task, frame_count, frame, work, largest_frame, qualifies}
 use Rattle.theory.specs.Reason.{exceeds, exceeding, exceeded, exceeded_length, exceeding_frame}
@@ -15,8 +16,7 @@ use Rattle.sheet.specs.Admission.{reason_of}
 use Rattle.sheet.specs.declared.Reason.{Reason}
 use Rattle.admission.specs.Inside.Frames.{of_frames, from_at_least}
 use Rattle.admission.specs.Start.{start_found, start_of}
-use Rattle.admission.specs.declared.Start.TheVariants.{At, Nowhere}
-use Rattle.admission.proofs.Rows.{every_passes, every_fails, every_ends}
+use Rattle.admission.proofs.Rows.{every_listed, first_listed}
 use Rattle.admission.proofs.Tests.{same_outcome}
 
 every_swap : (a m b n : ℕ) (test : ℕ → ℕ → Bool)
@@ -26,36 +26,25 @@ every_swap a m b n test =
     (λ e. every_is b n _ (λ y l u. every_is a m _ (λ x l' u'. every_at b n (λ y. test x y) (every_at a m (λ x. every b n (λ y. test x y)) e x l' u') y l u)))
     (λ e. every_is a m _ (λ x l u. every_is b n _ (λ y l' u'. every_at a m (λ x. test x y) (every_at b n (λ y. every a m (λ x. test x y)) e y l' u') x l u)))
 
+-- the frames that qualify, as `find` looks through them
+pub starts_found : (frames : List ℕ) → find (qualifies (of_frames frames)) (range_with_len 0 (length frames)) ≡ first 0 (frame_count (of_frames frames)) (qualifies (of_frames frames))
+unfolding frame_count of_frames
+starts_found frames = first_listed 0 (length frames) (qualifies (of_frames frames))
+
 -- what was found, from the answer
-pub found_at : (why : Reason) (o : Option ℕ) (s : ℕ) → start_found why o ≡ At s → o ≡ some s
-found_at why none s e = let z : ◌≡◌ {A = ℕ} 0 1 = cc in let z : ⊥ = omega arith in absurd z
-found_at why (some n) s e = ap some (cc)
+pub found_at : (why : Reason) (o : Option ℕ) (s : ℕ) → start_found why o ≡ Ok s → o ≡ Some s
+found_at why None s e = cc
+found_at why (Some n) s e = ap Some (cc)
 
-pub found_nowhere : (why : Reason) (o : Option ℕ) (said : Reason) → start_found why o ≡ Nowhere said → (o ≡ none) × (said ≡ why)
-found_nowhere why none said e = (refl, cc)
-found_nowhere why (some n) said e = let z : ◌≡◌ {A = ℕ} 0 1 = cc in let z : ⊥ = omega arith in absurd z
-
--- frames k on are left to compare with frame s
-pub others_left : Task → ℕ → ℕ → ℕ → Bool
-others_left t count s k = every k (count - k) (from_at_least t s)
+pub found_nowhere : (why : Reason) (o : Option ℕ) (said : Reason) → start_found why o ≡ Err said → (o ≡ None) × (said ≡ why)
+found_nowhere why None said e = (refl, cc)
+found_nowhere why (Some n) said e = cc
 
 module _ (t : Task) where
-  pub others_all : (count s : ℕ) → frame_count t ≡ count → others_left t count s 0 ≡ qualifies t s
-  unfolding others_left qualifies from_at_least
-  others_all count s e = rw (← e, sub-zero (frame_count t)) (every_swap 0 (frame_count t) 1 (frame_count t) (λ k n. leb (work t k n) (work t s n)))
-
-  module _ (count s k : ℕ) (h : k < count) where
-    pub others_pass : from_at_least t s k ≡ true → others_left t count s (k + 1) ≡ others_left t count s k
-    unfolding others_left
-    others_pass e = sym (every_passes (from_at_least t s) k count h e)
-
-    pub others_fail : from_at_least t s k ≡ false → others_left t count s k ≡ false
-    unfolding others_left
-    others_fail e = every_fails (from_at_least t s) k count h e
-
-  pub others_end : (count s k : ℕ) → count ≤ k → others_left t count s k ≡ true
-  unfolding others_left
-  others_end count s k h = every_ends (from_at_least t s) k count h
+  -- a frame qualifies that is at least every other, at every length
+  pub qualifies_by : (s : ℕ) → list_all (from_at_least t s) (range_with_len 0 (frame_count t)) ≡ qualifies t s
+  unfolding qualifies from_at_least
+  qualifies_by s = every_listed 0 (frame_count t) (from_at_least t s) ∙ every_swap 0 (frame_count t) 1 (frame_count t) (λ k n. leb (work t k n) (work t s n))
 
   -- the answer, by what the search found
   pub start_by : {o : Option ℕ} → first 0 (frame_count t) (qualifies t) ≡ o → start_of t ≡ start_found (reason_of t) o

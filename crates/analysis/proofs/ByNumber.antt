@@ -2,13 +2,13 @@
 use mathlib.Core.List.{List, [], ◌++◌, append_assoc}
 use mathlib.Core.Path.{◌≡◌, refl, sym, ap, ap₂, ◌∙◌}
 use Prim.Native.Nat.{ℕ, zero, suc, ◌+◌, ◌-◌, ◌*◌, ◌≤◌, ◌<◌}
+use borrow.Rule.Slice.PartMut.{put_mid}
 use native.Mathlib.Decide.{ℕ_discrete, dec_lt}
 use native.Mathlib.Nat.{zero-add, mul-zero, mul-suc, mul-le-mul_left}
-use native.Mathlib.Numerals.{add-one}
 use native.Mathlib.Omega.{arith}
-use lib.ListN.{length, get_or, take, drop, set, length-append, length-take, length-drop, take-append-drop, get_or-append}
+use lib.ListN.{length, get_or, take, drop, length-append, length-take, length-drop, take-append-drop, get_or-append}
 use Rattle.analysis.specs.Findings.{in_turn}
-use lib.Seq.{get_or-take, get_or-drop, get_or-append-add, drop-drop, ext_get_or, length-take-le, take_all, paste, paste-zero, paste-suc, length-paste}
+use lib.Seq.{get_or-take, get_or-drop, get_or-append-add, drop-drop, ext_get_or, length-take-le}
 
 -- a list with a row put over it from `at` on
 module _ {A : Type 0} (d : A) (l row : List A) (at w : ℕ) (wide : length row ≡ w) (room : at + w ≤ length l) where
@@ -46,27 +46,9 @@ module _ {A : Type 0} (d : A) (l row : List A) (at w : ℕ) (wide : length row �
       ∙ get_or-drop (at + w) l m d
       ∙ ap (λ (i : ℕ). get_or l i d) same
 
--- the same element by element: after k of them
-module _ {A : Type 0} (l : List A) (at : ℕ) (row : List A) where
-  pub put : ℕ → List A
-  put k = paste l at row k
-
-  pub none_put : l ≡ put 0
-  unfolding put
-  none_put = paste-zero l at row
-
-  module _ (w : ℕ) (room : at + w ≤ length l) (wide : length row ≡ w) where
-    pub length_put : (k : ℕ) → k ≤ w → length (put k) ≡ length l
-    unfolding put
-    length_put k h = length-paste l at row k (omega arith) (omega arith)
-
-    pub put_more : (k : ℕ) (d : A) → k < w → set (put k) (at + k) (get_or row k d) ≡ put (k + 1)
-    unfolding put
-    put_more k d h = rw (add-one k) (paste-suc l at row k d (omega arith) (omega arith))
-
-    pub all_put : (k : ℕ) → w ≡ k → put k ≡ take at l ++ row ++ drop (at + w) l
-    unfolding put
-    all_put k e = rw (← e, take_all w row (omega arith))
+-- a copy to the w places from `at` on puts it there
+pub copied : {A : Type 0} (l row : List A) (at w k : ℕ) → k ≡ w → put_mid at k l row ≡ take at l ++ row ++ drop (at + w) l
+copied l row at w k e = rw (e, drop-drop w at l) (sym (append_assoc (take at l) row (drop (at + w) l)))
 
 -- ---- rows in turn
 

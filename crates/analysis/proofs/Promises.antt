@@ -1,8 +1,7 @@
 -- Demand 3 by task numbers: what the outcome and the written times say of every run of the set.
+use Rattle.std.specs.Prelude.{Option, Some, unwrap_or}
 use mathlib.Core.Bool.{true, false}
 use mathlib.Core.List.{List, []}
-use mathlib.Core.Option
-use mathlib.Core.Option.{Option, some}
 use mathlib.Core.Path.{◌≡◌, refl, sym, ap, ◌∙◌}
 use Prim.Native.Nat.{ℕ, ◌+◌, ◌*◌, ◌≤◌, ◌<◌, zero-le}
 use native.Mathlib.Nat.{zero-add, lt_of_lt_of_le}
@@ -10,19 +9,17 @@ use native.Mathlib.Omega.{arith}
 use native.Mathlib.Decide.{dec_lt}
 use lib.ListN.{length, get_or, get_or-eq_default}
 use Rattle.theory.specs.Tasks.{Task, task_at, frame_count, deadline_of, Admitted}
-use Rattle.theory.specs.Analysis.{Verdict, holds, missed, verdict, blocker, passes, IsResponse, demand_of, response_of}
+use Rattle.theory.specs.Analysis.{Verdict as ByPlace, holds, missed, verdict, blocker, passes, IsResponse, demand_of, response_of}
 use Rattle.theory.specs.Runs.{Run}
 use Rattle.theory.specs.WorstRun.{worst_run}
 use Rattle.theory.proofs.Theorems.{holds_no_miss, passing_no_longer, passing_has_times, passing_reached, failing_first_misses, named_task_misses}
 use Rattle.theory.proofs.Laws.{IsMissed, verdict_holds, verdict_missed, response_of_is, blocker_is}
-use Rattle.sheet.specs.declared.Refusal.{Refusal}
 use Rattle.order.specs.Order.{priority_order, ordered_set}
-use Rattle.order.specs.declared.Blocker.{Blocker}
 use Rattle.order.proofs.Order.{order_permutes}
 use Rattle.order.proofs.Laws.{ordered_length, ordered_at, ordered_admitted}
 use Rattle.analysis.specs.Times.{number_at, place_of, blocker_number, verdict_number, outcome_of, times_from, times_of, slots_of}
 use Rattle.analysis.specs.Runs.{RunOf, place, TaskMisses, TaskTakesLonger, TaskTakes}
-use Rattle.analysis.specs.declared.Outcome.TheVariants.{Holds, Missed, Refused}
+use Rattle.analysis.specs.declared.Verdict.TheVariants.{Holds, Missed}
 use Rattle.analysis.proofs.Numbering.{place_in, number_back, number_in, place_back}
 use Rattle.analysis.proofs.TimesAt.{time_in, time_at, time_of_passing, time_behind, time_of_missed}
 
@@ -50,25 +47,16 @@ module _ (policy : ℕ) (tasks : List Task) where
       ∙ ap (task_at tasks) (number_back (length tasks) order (order_permutes policy tasks) i h)
 
   -- the outcome is that of the verdict
-  said_holds : (v : Verdict) → verdict_number order v ≡ Holds → v ≡ holds
+  said_holds : (v : ByPlace) → verdict_number order v ≡ Holds → v ≡ holds
   unfolding verdict_number
   said_holds holds e = refl
-  said_holds (missed p b) e = let z : ◌≡◌ {A = Verdict} (missed p b) holds = cc in z
+  said_holds (missed p b) e = cc
 
-  said_missed : (v : Verdict) (i : ℕ) (b : Blocker) → verdict_number order v ≡ Missed i b
+  said_missed : (v : ByPlace) (i : ℕ) (b : Option ℕ) → verdict_number order v ≡ Missed i b
       → (p : ℕ) × (c : Option ℕ) × (v ≡ missed p c) × (number_at order p ≡ i) × (blocker_number order c ≡ b)
   unfolding verdict_number
-  said_missed holds i b e = let z : ◌≡◌ {A = ℕ} 0 1 = cc in let y : ⊥ = omega arith in absurd y
+  said_missed holds i b e = cc
   said_missed (missed p c) i b e = (p, c, refl, (cc), (cc))
-
-  -- The analysis itself refuses nothing.
-  pub outcome_not_refused : (why : Refusal) → ¬ (outcome_of policy tasks ≡ Refused why)
-  unfolding outcome_of
-  outcome_not_refused why e = go (verdict set) e
-    where
-      go : (v : Verdict) → verdict_number order v ≡ Refused why → ⊥
-      go holds q = unfold verdict_number in let z : ◌≡◌ {A = ℕ} 0 1 = cc in omega arith
-      go (missed p b) q = unfold verdict_number in let z : ◌≡◌ {A = ℕ} 0 1 = cc in omega arith
 
   -- a set that is admitted
   module _ (admitted : Admitted tasks) where
@@ -84,7 +72,7 @@ module _ (policy : ℕ) (tasks : List Task) where
         holds_no_miss set in_order (said_holds (verdict set) e) run legal (place policy tasks i) r k (place_below i h)
 
     -- If the answer is missed, the named task is a task of the set and misses its deadline in some run.
-    pub missed_then_some_miss : (i : ℕ) (b : Blocker) → outcome_of policy tasks ≡ Missed i b
+    pub missed_then_some_miss : (i : ℕ) (b : Option ℕ) → outcome_of policy tasks ≡ Missed i b
         → (i < length tasks) × (run : Run) × (r k : ℕ) × RunOf policy tasks run × TaskMisses policy tasks run i r k
     unfolding outcome_of RunOf TaskMisses place
     missed_then_some_miss i b e =
@@ -95,7 +83,7 @@ module _ (policy : ℕ) (tasks : List Task) where
         (rw (← number) (number_in (length tasks) order (order_permutes policy tasks) p p_below), worst_run set p k, 1, k, legal, rw here misses)
 
     -- And it is the first task in priority order that does not pass, with the blocker of the definitions.
-    pub missed_names : (i : ℕ) (b : Blocker) → outcome_of policy tasks ≡ Missed i b
+    pub missed_names : (i : ℕ) (b : Option ℕ) → outcome_of policy tasks ≡ Missed i b
         → (passes set (place policy tasks i) ≡ false)
         × ((q : ℕ) → q < place policy tasks i → passes set q ≡ true)
         × (b ≡ blocker_number order (blocker set (place policy tasks i)))
@@ -121,7 +109,7 @@ module _ (policy : ℕ) (tasks : List Task) where
         (worst_run set (place policy tasks i) k, 1, k, legal, misses)
 
     -- The blocker that a miss names is a task of the set.
-    pub blocker_in : (p q : ℕ) → blocker set p ≡ some q → number_at order q < length tasks
+    pub blocker_in : (p q : ℕ) → blocker set p ≡ Some q → number_at order q < length tasks
     blocker_in p q e = number_in (length tasks) order (order_permutes policy tasks) q (rw count at (blocker_is set p e).in_set)
 
     -- ---- the written times
@@ -149,15 +137,15 @@ module _ (policy : ℕ) (tasks : List Task) where
         frames_of = ap frame_count (task_of_number i hi)
 
         -- the written time of a frame is its response time
-        written_response : (k : ℕ) → k < frame_count (task_at tasks i) → response_of set (place policy tasks i) k ≡ some (time i k)
+        written_response : (k : ℕ) → k < frame_count (task_at tasks i) → response_of set (place policy tasks i) k ≡ Some (time i k)
         written_response k hk =
             let (R, e) = passing_has_times set in_order (place policy tasks i) (place_below i hi) pass k in
             let same : time i k ≡ R =
             time_is i k hi (lt_of_lt_of_le hk (eight i))
             ∙ time_of_passing set (place policy tasks i) pass k (rw frames_of hk)
-            ∙ ap (λ (o : Option ℕ). Option.get_or o 0) e
+            ∙ ap (λ (o : Option ℕ). unwrap_or o 0) e
             in
-            e ∙ ap some (sym same)
+            e ∙ ap Some (sym same)
 
         -- The written time of a frame is the least solution of its equation.
         pub time_is_least : (k : ℕ) → k < frame_count (task_at tasks i)
@@ -177,7 +165,7 @@ module _ (policy : ℕ) (tasks : List Task) where
         unfolding RunOf TaskTakes
         time_reached k hk =
             let (R, e, legal, takes) = passing_reached set in_order (place policy tasks i) (place_below i hi) pass k (rw frames_of hk) in
-            let same : some R ≡ some (time i k) = sym e ∙ written_response k hk in
+            let same : Some R ≡ Some (time i k) = sym e ∙ written_response k hk in
             let same : R ≡ time i k = cc in
             (worst_run set (place policy tasks i) k, 1, legal, rw (← same) takes)
 
@@ -197,10 +185,10 @@ module _ (policy : ℕ) (tasks : List Task) where
           let here : place policy tasks (number_at order q) ≡ q = place_back (length tasks) order (order_permutes policy tasks) q hq in
           let inside : number_at order q < length tasks = number_in (length tasks) order (order_permutes policy tasks) q hq in
           let same : task_at set q ≡ task_at tasks (number_at order q) = ap (task_at set) (sym here) ∙ task_of_number (number_at order q) inside in
-          let response : response_of set q k ≡ some (time (number_at order q) k) =
+          let response : response_of set q k ≡ Some (time (number_at order q) k) =
           ap (λ (p : ℕ). response_of set p k) (sym here)
           ∙ written_response (number_at order q) inside (ap (passes set) here ∙ pass) k (rw (← same) hk)
           in
           time_in set q 0 (frame_count (task_at set q)) k hk
-          ∙ ap (λ (m : ℕ). Option.get_or (response_of set q m) 0) (zero-add k)
-          ∙ ap (λ (o : Option ℕ). Option.get_or o 0) response
+          ∙ ap (λ (m : ℕ). unwrap_or (response_of set q m) 0) (zero-add k)
+          ∙ ap (λ (o : Option ℕ). unwrap_or o 0) response

@@ -1,4 +1,5 @@
 -- Laws of the rounds: before each the demand is more at every earlier time, so that the first time that is enough is the least.
+use Rattle.std.specs.Prelude.{None, Some}
 use mathlib.Core.List.{List}
 use mathlib.Core.Path.{◌≡◌}
 use Prim.Native.Nat.{ℕ, ◌+◌, ◌≤◌, ◌<◌}
@@ -9,7 +10,6 @@ use Rattle.theory.proofs.Laws.{within_refl, demand_mono, response_is}
 use Rattle.theory.proofs.Laws.{MoreBelow, more_below_start, more_below_round, more_below_is, more_below_none}
 use Rattle.theory.proofs.Demand.{demand_least}
 use Rattle.analysis.specs.Inside.Response.{response_to}
-use Rattle.analysis.specs.declared.response.Response.TheVariants.{At, Never}
 
 module _ (above : List Higher) (blocked own : ℕ) where
   abbrev pub the_demand : ℕ → ℕ
@@ -31,10 +31,10 @@ module _ (above : List Higher) (blocked own : ℕ) where
     not_before_demand l = record { from_one = omega (arith, b.from_one); more = more_below_round grows b.more }
 
     module _ {deadline : ℕ} where
-      pub found : the_demand x ≤ x → x ≤ deadline → At x ≡ response_to above blocked own deadline
+      pub found : the_demand x ≤ x → x ≤ deadline → Some x ≡ response_to above blocked own deadline
       unfolding response_to
       found l h = rw ((response_is the_demand deadline).1 (more_below_is b.more b.from_one h l))
 
-      pub never : deadline < x → Never ≡ response_to above blocked own deadline
+      pub never : deadline < x → None ≡ response_to above blocked own deadline
       unfolding response_to
       never h = rw (more_below_none the_demand deadline b.more h)

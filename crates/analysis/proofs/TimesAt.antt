@@ -1,7 +1,7 @@
 -- Where each time stands: the eight slots of task i begin at slot 8i.
+use Rattle.std.specs.Prelude.{unwrap_or}
 use mathlib.Core.Bool.{Bool, true, false}
 use mathlib.Core.List.{List, ◌++◌}
-use mathlib.Core.Option
 use mathlib.Core.Path.{◌≡◌, refl, sym, ap, ◌∙◌}
 use Prim.Native.Nat.{ℕ, zero, suc, ◌+◌, ◌-◌, ◌*◌, ◌≤◌, ◌<◌}
 use native.Mathlib.Nat.{add-zero, add-suc, suc-add, zero-add}
@@ -10,9 +10,9 @@ use lib.ListN.{length, get_or, replicate, length-append, length-replicate, get_o
 use lib.Seq.{get_or-append-add}
 use Rattle.theory.specs.Tasks.{Task, task_at, frame_count}
 use Rattle.theory.specs.Analysis.{response_of, passes}
-use Rattle.analysis.specs.Times.{place_of, times_from, slots_by, slots_of, slots_from}
+use Rattle.analysis.specs.Times.{place_of, times_from, slots_by, slots_found, written_slots, slots_of, slots_from}
 
-eight : (b : Bool) (l : List ℕ) → length l ≤ 8 → length (slots_by b l) ≡ 8
+eight : (b : Bool) (l : List ℕ) → length l ≤ 8 → length (written_slots (slots_by b l)) ≡ 8
 unfolding slots_by
 eight true l h = simp (length-append, length-replicate) (omega arith)
 eight false l h = refl
@@ -23,26 +23,26 @@ module _ (set : List Task) (p : ℕ) where
   length_times k zero = refl
   length_times k (suc n) = ap suc (length_times (suc k) n)
 
-  pub time_in : (k n j : ℕ) → j < n → get_or (times_from set p k n) j 0 ≡ Option.get_or (response_of set p (k + j)) 0
+  pub time_in : (k n j : ℕ) → j < n → get_or (times_from set p k n) j 0 ≡ unwrap_or (response_of set p (k + j)) 0
   unfolding times_from
   time_in k zero j h = let z : ⊥ = omega arith in absurd z
   time_in k (suc n) zero h = rw (add-zero k)
-  time_in k (suc n) (suc j) h = time_in (suc k) n j (omega arith) ∙ ap (λ (m : ℕ). Option.get_or (response_of set p m) 0) (suc-add k j ∙ sym (add-suc k j))
+  time_in k (suc n) (suc j) h = time_in (suc k) n j (omega arith) ∙ ap (λ (m : ℕ). unwrap_or (response_of set p m) 0) (suc-add k j ∙ sym (add-suc k j))
 
   pub length_slots : frame_count (task_at set p) ≤ 8 → length (slots_of set p) ≡ 8
-  unfolding slots_of
+  unfolding slots_of slots_found
   length_slots h = eight (passes set p) (times_from set p 0 (frame_count (task_at set p))) (rw (length_times 0 (frame_count (task_at set p))) h)
 
   -- a task that passes
-  pub time_of_passing : passes set p ≡ true → (k : ℕ) → k < frame_count (task_at set p) → get_or (slots_of set p) k 0 ≡ Option.get_or (response_of set p k) 0
-  unfolding slots_of slots_by
+  pub time_of_passing : passes set p ≡ true → (k : ℕ) → k < frame_count (task_at set p) → get_or (slots_of set p) k 0 ≡ unwrap_or (response_of set p k) 0
+  unfolding slots_of slots_found slots_by
   time_of_passing e k h =
       rw e (get_or-append (times_from set p 0 (frame_count (task_at set p))) _ 0 k (rw (length_times 0 (frame_count (task_at set p))) h)
-      ∙ time_in 0 (frame_count (task_at set p)) k h ∙ ap (λ (m : ℕ). Option.get_or (response_of set p m) 0) (zero-add k))
+      ∙ time_in 0 (frame_count (task_at set p)) k h ∙ ap (λ (m : ℕ). unwrap_or (response_of set p m) 0) (zero-add k))
 
   -- behind its frames
   pub time_behind : passes set p ≡ true → (k : ℕ) → frame_count (task_at set p) ≤ k → k < 8 → get_or (slots_of set p) k 0 ≡ 0
-  unfolding slots_of slots_by
+  unfolding slots_of slots_found slots_by
   time_behind e k h l =
       let times : List ℕ = times_from set p 0 (frame_count (task_at set p)) in
       let long : length times ≡ frame_count (task_at set p) = length_times 0 (frame_count (task_at set p)) in
@@ -53,7 +53,7 @@ module _ (set : List Task) (p : ℕ) where
 
   -- one that does not
   pub time_of_missed : passes set p ≡ false → (k : ℕ) → k < 8 → get_or (slots_of set p) k 0 ≡ 0
-  unfolding slots_of slots_by
+  unfolding slots_of slots_found slots_by
   time_of_missed e k h = rw e (get_or-replicate 8 k 0 0 h)
 
 module _ (order : List ℕ) (set : List Task) (small : (p : ℕ) → frame_count (task_at set p) ≤ 8) where

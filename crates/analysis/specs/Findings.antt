@@ -1,9 +1,9 @@
 -- What the analysis finds of each task, by place in the priority order; from this the times by task number and the report's lines are taken.
-use Rattle.std.specs.Prelude.{false, List, [], ◌∷◌, ◌++◌, map, ℕ, zero, suc, ◌-◌, length, get_or, take, replicate}
+use Rattle.std.specs.Prelude.{Bool, List, [], ◌∷◌, ◌++◌, map, ℕ, zero, suc, ◌-◌, length, get_or, take, replicate, None, is_none}
 use Rattle.theory.specs.Tasks.{Task, task_at, frame_count, shortest_deadline}
-use Rattle.theory.specs.Analysis.{lower, blocking, passes}
-use Rattle.sheet.specs.Constants.{most_tasks, most_frames}
-use Rattle.analysis.specs.Times.{number_at, place_of, slots_of}
+use Rattle.theory.specs.Analysis.{lower, blocking}
+use Rattle.sheet.specs.Constants.{most_tasks}
+use Rattle.analysis.specs.Times.{number_at, place_of, slots_found, written_slots}
 use Rattle.analysis.specs.declared.Finding.{Finding}
 use Rattle.analysis.specs.declared.Analysis.{Analysis}
 
@@ -17,14 +17,16 @@ finding_at order set p =
       deadline = shortest_deadline t;
       frame_count = frame_count t;
       blocked = blocking (lower set p);
-      passes = passes set p;
-      times = slots_of set p;
+      times = slots_found set p;
     }
 
 -- of a place without a task
-unfoldable pub no_finding : Finding
-no_finding =
-    record { number = 0; period = 0; deadline = 0; frame_count = 0; blocked = 0; passes = false; times = replicate most_frames 0 }
+abbrev pub no_finding : Finding
+no_finding = record { number = 0; period = 0; deadline = 0; frame_count = 0; blocked = 0; times = None }
+
+-- its task does not pass
+abbrev pub fails : Finding → Bool
+fails f = is_none f.times
 
 -- of n places, from place p on
 unfoldable pub findings_from : List ℕ → List Task → ℕ → ℕ → List Finding
@@ -37,13 +39,13 @@ findings_of order set = findings_from order set 0 (length set) ++ replicate (mos
 
 -- ---- by task number
 
--- what stands past the end of an array of findings: nothing reads it
-abbrev pub past_end : Finding
-past_end = record { number = 0; period = 0; deadline = 0; frame_count = 0; blocked = 0; passes = false; times = [] }
-
 -- the finding of a place
 abbrev pub finding_in : Analysis → ℕ → Finding
-finding_in a p = get_or a.findings p past_end
+finding_in a p = get_or a.findings p no_finding
+
+-- its eight slots as they are written
+abbrev pub slots_in : Analysis → ℕ → List ℕ
+slots_in a p = written_slots (finding_in a p).times
 
 -- the task numbers in priority order
 unfoldable pub numbers_found : Analysis → List ℕ
@@ -56,4 +58,4 @@ in_turn row i (suc n) = row i ++ in_turn row (suc i) n
 
 -- the times of all tasks in task-number order
 unfoldable pub times_by_number : Analysis → List ℕ
-times_by_number a = in_turn (λ i. (finding_in a (place_of (numbers_found a) i)).times) 0 a.task_count
+times_by_number a = in_turn (λ i. slots_in a (place_of (numbers_found a) i)) 0 a.task_count

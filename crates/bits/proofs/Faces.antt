@@ -1,4 +1,5 @@
 -- Laws of the two public faces, `taken` and `stored`, for their callers.
+use Rattle.std.specs.Prelude.{None, Some}
 use mathlib.Core.Bool.{true, false}
 use mathlib.Core.List.{List}
 use mathlib.Core.Path.{◌≡◌}
@@ -7,15 +8,14 @@ use borrow.Author.Tests.{lt-ltb, le-ltb}
 use lib.ListN.{length}
 use Rattle.bits.specs.Packed.{value, digits, bits_of, bytes_of, field, with_field}
 use Rattle.bits.specs.Faces.{within, taken, fits, stored}
-use Rattle.bits.specs.declared.Taken.TheVariants.{Value, Outside}
 use Rattle.bits.proofs.Within.{Inside, within_in}
 
 module _ (s : List ℕ) (at w : ℕ) where
-  pub taken_outside : within (length s) at w ≡ false → taken s at w ≡ Outside
+  pub taken_outside : within (length s) at w ≡ false → taken s at w ≡ None
   unfolding taken
   taken_outside e = rw e
 
-  pub taken_value : Inside (length s) at w → taken s at w ≡ Value (value (field at w (bits_of s)))
+  pub taken_value : Inside (length s) at w → taken s at w ≡ Some (value (field at w (bits_of s)))
   unfolding taken
   taken_value h = rw (within_in (length s) at w h.low h.high h.there)
 

@@ -1,4 +1,5 @@
 -- What was put is read back, everything else stays, and fields one after another compose: for every byte string, position and width.
+use Rattle.std.specs.Prelude.{Some}
 use mathlib.Core.Bool.{Bool}
 use mathlib.Core.List.{List, ◌++◌}
 use mathlib.Core.Logic.{◌⊎◌, inl, inr}
@@ -9,7 +10,6 @@ use native.Mathlib.Omega.{arith}
 use lib.ListN.{length}
 use Rattle.bits.specs.Packed.{value, digits, bits_of, field, with_field}
 use Rattle.bits.specs.Faces.{taken, stored}
-use Rattle.bits.specs.declared.Taken.TheVariants.{Value}
 use Rattle.bits.proofs.Laws.{length_digits, value_digits, length_bits, length_bytes, bits_bytes}
 use Rattle.bits.proofs.Fields.{length_with_field, read_back, stays_before, stays_behind, with_fields}
 use Rattle.bits.proofs.Within.{Inside}
@@ -27,10 +27,10 @@ module _ (s : List ℕ) (at w v : ℕ) (h : Inside (length s) at w) (l : v < 2 ^
   length_stored = rw (stored_well s at w v (fits_well s at w v h l)) (length_bytes (length s) _)
 
   -- what was put is read back
-  pub put_then_take : taken (stored s at w v) at w ≡ Value v
+  pub put_then_take : taken (stored s at w v) at w ≡ Some v
   put_then_take =
       taken_value (stored s at w v) at w (rw length_stored h)
-      ∙ ap Value
+      ∙ ap Some
       (ap (λ (bs : List Bool). value (field at w bs)) bits_stored
       ∙ ap (λ (k : ℕ). value (field at k (with_field at (digits w v) (bits_of s)))) (sym (length_digits w v))
       ∙ ap value (read_back at (digits w v) (bits_of s) (rw (length_digits w v, length_bits s) h.there))

@@ -1,8 +1,6 @@
 -- What the two public functions answer and leave, for every byte string, position and width.
-use Rattle.std.specs.Prelude.{Bool, ◌&&◌, cond, List, ℕ, ◌+◌, ◌*◌, ◌^◌, leb, ltb, length}
+use Rattle.std.specs.Prelude.{Bool, ◌&&◌, cond, List, ℕ, ◌+◌, ◌*◌, ◌^◌, leb, ltb, length, None, Option, Some}
 use Rattle.bits.specs.Packed.{value, digits, bits_of, bytes_of, field, with_field}
-use Rattle.bits.specs.declared.Taken.{Taken}
-use Rattle.bits.specs.declared.Taken.TheVariants.{Value, Outside}
 
 -- the most bits that a field has
 abbrev pub widest : ℕ
@@ -13,8 +11,8 @@ unfoldable pub within : ℕ → ℕ → ℕ → Bool
 within n at w = leb 1 w && leb w widest && leb (at + w) (8 * n)
 
 -- the number in the field, where there is such a field
-unfoldable pub taken : List ℕ → ℕ → ℕ → Taken
-taken s at w = cond (within (length s) at w) (Value (value (field at w (bits_of s)))) Outside
+unfoldable pub taken : List ℕ → ℕ → ℕ → Option ℕ
+taken s at w = cond (within (length s) at w) (Some (value (field at w (bits_of s)))) None
 
 -- there is such a field, and the number fits it
 unfoldable pub fits : ℕ → ℕ → ℕ → ℕ → Bool

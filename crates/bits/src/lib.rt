@@ -8,26 +8,11 @@ ghost use Rattle.bits.specs.Faces.{widest, within, taken, fits, stored};
 // The most bits that a field has.
 pub const WIDEST: usize = 32;
 
-#[derive(Clone, Copy)]
-pub enum Taken {
-    Value(u32),
-    Outside,
-}
-
 // Whether a field has 1 to 32 bits and lies wholly in `len` bytes.
 fn lies_within(len: usize, at: usize, width: usize) -> bool
     ensures { result ≡ within len at width }
 {
-    if width < 1 {
-        return false;
-    }
-    if WIDEST < width {
-        return false;
-    }
-    if len <= at / 8 {
-        return false;
-    }
-    (at % 8 + width + 7) / 8 <= len - at / 8
+    (1..=WIDEST).contains(&width) && at / 8 < len && (at % 8 + width + 7) / 8 <= len - at / 8
 }
 
 // The number that a few bytes stand for, high byte first.
@@ -36,8 +21,8 @@ fn number(bytes: &[u8]) -> u64
     ensures { result ≡ value (bits_of bytes.now) }
 {
     let mut n: u64 = 0;
-    for i in 0..bytes.len() {
-        n = (n << 8) | bytes[i] as u64;
+    for &byte in bytes {
+        n = (n << 8) | byte as u64;
     }
     n
 }
@@ -47,10 +32,8 @@ fn hold_number(bytes: &mut [u8], n: u64)
     requires { length bytes.old ≤ 5 }
     ensures { bytes.new ≡ bytes_of (length bytes.old) (digits (8 * length bytes.old) n) }
 {
-    let count = bytes.len();
-    for i in 0..count {
-        bytes[i] = ((n >> (8 * (count - 1 - i))) % 256) as u8;
-    }
+    let all = n.to_be_bytes();
+    bytes.copy_from_slice(&all[all.len() - bytes.len()..]);
 }
 
 // The bytes that a field touches, from `first` up to `end`, and how many bits of the last one are past it.
@@ -92,18 +75,15 @@ fn with_value(n: u64, width: usize, past: usize, v: u64) -> u64
 }
 
 // The number in the field of `width` bits from bit position `at` on, where there is such a field.
-pub fn take_field(bytes: &[u8], at: usize, width: usize) -> Taken
+pub fn take_field(bytes: &[u8], at: usize, width: usize) -> Option<u32>
     ensures { result ≡ taken bytes.now at width }
 {
     if !lies_within(bytes.len(), at, width) {
-        return Taken::Outside;
+        return None;
     }
-    let p = touched_by(at, width);
-    let first = p.first;
-    let end = p.end;
-    let past = p.past;
+    let Touched { first, end, past } = touched_by(at, width);
     let run = number(&bytes[first..end]);
-    Taken::Value(low_bits(run >> past, width) as u32)
+    Some(low_bits(run >> past, width) as u32)
 }
 
 // The number goes into the field of `width` bits from bit position `at` on, where there is such a field and the number fits it.
@@ -117,10 +97,7 @@ pub fn put_field(bytes: &mut [u8], at: usize, width: usize, value: u32) -> bool
     if v >> width != 0 {
         return false;
     }
-    let p = touched_by(at, width);
-    let first = p.first;
-    let end = p.end;
-    let past = p.past;
+    let Touched { first, end, past } = touched_by(at, width);
     let run = number(&bytes[first..end]);
     hold_number(&mut bytes[first..end], with_value(run, width, past, v));
     true

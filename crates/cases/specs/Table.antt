@@ -1,25 +1,27 @@
 -- SCOPE.md, "Worked sets": cases A to O as one table, sets in, answers out; and the three refusals that "What is turned away" gives by example.
-use Rattle.std.specs.Prelude.{List, [], ◌∷◌, ◌++◌, map, ◌≡◌, ℕ, ◌-◌, length, replicate}
+use Rattle.std.specs.Prelude.{List, [], ◌∷◌, ◌++◌, map, ◌≡◌, ℕ, ◌-◌, length, replicate, None, Some, Result, Ok, Err}
 use Rattle.check_word.specs.Division.{body}
 use Rattle.theory.specs.Tasks.{Task, task_at, start_frame}
 use Rattle.sheet.specs.Constants.{version_1, version_2, most_frames}
 use Rattle.sheet.specs.Tasks.{set_with}
 use Rattle.sheet.specs.Writing.{sheet_of}
 use Rattle.sheet.specs.declared.Reason.{Reason}
+use Rattle.sheet.specs.declared.Refusal.{Refusal}
 use Rattle.sheet.specs.declared.Refusal.TheVariants.{TaskCount, IllFormed, Lock, NotMonotonic}
 use Rattle.order.specs.Order.{priority_order}
-use Rattle.order.specs.declared.Blocker.TheVariants.{At, Nobody}
 use Rattle.report_text.specs.Report.{report}
 use Rattle.analysis.specs.Findings.{times_by_number}
 use Rattle.analysis.specs.Answers.{set_analysis}
 use Rattle.analysis.specs.declared.Analysis.{Analysis}
-use Rattle.analysis.specs.declared.Outcome.{Outcome}
-use Rattle.analysis.specs.declared.Outcome.TheVariants.{Holds, Missed, Refused}
+use Rattle.analysis.specs.declared.Verdict.{Verdict}
+use Rattle.analysis.specs.declared.Verdict.TheVariants.{Holds, Missed}
 
 -- what a case expects of its set
 pub data Expected : Type 0 where
-  -- the outcome, and eight slots for the times of each task's frames
-  analysed : Outcome → List ℕ → Expected
+  -- the verdict, and eight slots for the times of each task's frames
+  analysed : Verdict → List ℕ → Expected
+  -- the refusal
+  refused : Refusal → Expected
   -- the start frame of task 0
   start : ℕ → Expected
   -- the order of priorities
@@ -63,21 +65,23 @@ unfoldable pub in_eights : List (List ℕ) → List ℕ
 in_eights [] = []
 in_eights (ts ∷ rows) = ts ++ replicate (most_frames - length ts) 0 ++ in_eights rows
 
--- an outcome with each task's times; none for a task that does not pass
-abbrev times : Outcome → List (List ℕ) → Expected
-times outcome rows = analysed outcome (in_eights rows)
+-- a verdict with each task's times; none for a task that does not pass
+abbrev times : Verdict → List (List ℕ) → Expected
+times verdict rows = analysed verdict (in_eights rows)
 
 -- why there is no start: the largest frame, the length, the other frame
 abbrev why : ℕ → ℕ → ℕ → Reason
 why frame length other = record { frame = frame; length = length; other = other }
 
 -- what an analysis gives
-unfoldable pub given_by : Analysis → Expected
-given_by a = analysed a.outcome (times_by_number a)
+unfoldable pub given_by : Result Analysis Refusal → Expected
+given_by (Ok a) = analysed a.verdict (times_by_number a)
+given_by (Err r) = refused r
 
 -- what the definitions give in the place of what is expected
 unfoldable pub given : Case → Expected → Expected
-given c (analysed outcome slots) = given_by (set_analysis (set_with c.policy c.tasks))
+given c (analysed verdict slots) = given_by (set_analysis (set_with c.policy c.tasks))
+given c (refused r) = given_by (set_analysis (set_with c.policy c.tasks))
 given c (start frame) = start (start_frame (task_at c.tasks 0))
 given c (order numbers) = order (priority_order c.policy c.tasks)
 given c (bytes front) = bytes (body (sheet_of c.version c.policy c.tasks))
@@ -118,17 +122,17 @@ table =
     -- C
     ∷ case 1 (plain 3 (3 ∷ 1 ∷ []) ∷ plain 5 (1 ∷ []) ∷ []) (times Holds ((3 ∷ 1 ∷ []) ∷ (5 ∷ []) ∷ []) ∷ [])
     -- D
-    ∷ case 1 (plain 3 (3 ∷ []) ∷ plain 5 (1 ∷ []) ∷ []) (times (Missed 1 Nobody) ((3 ∷ []) ∷ [] ∷ []) ∷ [])
+    ∷ case 1 (plain 3 (3 ∷ []) ∷ plain 5 (1 ∷ []) ∷ []) (times (Missed 1 None) ((3 ∷ []) ∷ [] ∷ []) ∷ [])
     -- E
     ∷ case 1 (plain 4 (1 ∷ []) ∷ plain 14 (10 ∷ []) ∷ []) (times Holds ((1 ∷ []) ∷ (14 ∷ []) ∷ []) ∷ [])
     -- F
     ∷ case 0 (with_deadline 10 4 (2 ∷ []) ∷ with_lock 20 3 (5 ∷ []) ∷ []) (times Holds ((4 ∷ []) ∷ (7 ∷ []) ∷ []) ∷ text report_of_f ∷ [])
     -- G
-    ∷ case 0 (with_deadline 10 4 (2 ∷ []) ∷ with_lock 20 4 (5 ∷ []) ∷ []) (times (Missed 0 (At 1)) ([] ∷ (7 ∷ []) ∷ []) ∷ [])
+    ∷ case 0 (with_deadline 10 4 (2 ∷ []) ∷ with_lock 20 4 (5 ∷ []) ∷ []) (times (Missed 0 (Some 1)) ([] ∷ (7 ∷ []) ∷ []) ∷ [])
     -- H
     ∷ case 0 (with_deadline 10 4 (2 ∷ []) ∷ with_lock 20 1 (5 ∷ []) ∷ []) (times Holds ((2 ∷ []) ∷ (7 ∷ []) ∷ []) ∷ [])
     -- I
-    ∷ case 0 (plain 10 (1 ∷ 2 ∷ 3 ∷ []) ∷ []) (times (Refused (NotMonotonic 0 (why 2 2 1))) [] ∷ [])
+    ∷ case 0 (plain 10 (1 ∷ 2 ∷ 3 ∷ []) ∷ []) (refused (NotMonotonic 0 (why 2 2 1)) ∷ [])
     -- J
     ∷ case 0 (plain 10 (3 ∷ 2 ∷ 1 ∷ 5 ∷ []) ∷ []) (start 3 ∷ times Holds ((3 ∷ 2 ∷ 1 ∷ 5 ∷ []) ∷ []) ∷ [])
     -- K
@@ -141,14 +145,14 @@ table =
     (bytes (0x10 ∷ 0x20 ∷ 0x00 ∷ 0x00 ∷ 0xA0 ∷ 0x00 ∷ 0x0A ∷ 0x00 ∷ 0x00 ∷ 0x01 ∷ 0x00 ∷ 0x00 ∷ 0x30 ∷ []) ∷ [])
     -- N, version 2: of two frames of equal time the one with the shorter deadline has no response time
     ∷ case_2 0 (plain 5 (2 ∷ []) ∷ by_frame 10 0 (3 ∷ 3 ∷ []) (6 ∷ 4 ∷ []) ∷ [])
-    (times (Missed 1 Nobody) ((2 ∷ []) ∷ [] ∷ []) ∷ bytes (0x20 ∷ 0x40 ∷ 0x00 ∷ 0x00 ∷ 0x50 ∷ 0x00 ∷ 0x00 ∷ 0x10 ∷ 0x00 ∷ 0x02 ∷ 0x00 ∷ 0x00 ∷ 0x50 ∷ 0x00 ∷ 0x0A ∷ 0x00 ∷ 0x00 ∷ 0x02 ∷ 0x00 ∷ 0x00 ∷ 0x30 ∷ 0x00 ∷ 0x06 ∷ 0x00 ∷ 0x00 ∷ 0x30 ∷ 0x00 ∷ 0x04 ∷ []) ∷ [])
+    (times (Missed 1 None) ((2 ∷ []) ∷ [] ∷ []) ∷ bytes (0x20 ∷ 0x40 ∷ 0x00 ∷ 0x00 ∷ 0x50 ∷ 0x00 ∷ 0x00 ∷ 0x10 ∷ 0x00 ∷ 0x02 ∷ 0x00 ∷ 0x00 ∷ 0x50 ∷ 0x00 ∷ 0x0A ∷ 0x00 ∷ 0x00 ∷ 0x02 ∷ 0x00 ∷ 0x00 ∷ 0x30 ∷ 0x00 ∷ 0x06 ∷ 0x00 ∷ 0x00 ∷ 0x30 ∷ 0x00 ∷ 0x04 ∷ []) ∷ [])
     -- O, version 2: the long frame of task 0 may be late by more than its short one, by whose deadline the task is ordered
     ∷ case_2 2 (by_frame 20 0 (4 ∷ 2 ∷ []) (10 ∷ 5 ∷ []) ∷ by_frame 12 3 (3 ∷ []) (7 ∷ []) ∷ [])
     (order (0 ∷ 1 ∷ []) ∷ times Holds ((6 ∷ 4 ∷ []) ∷ (7 ∷ []) ∷ []) ∷ text report_of_o ∷ [])
     -- with the smallest deadline for every frame O would miss
-    ∷ case 2 (with_deadline 20 5 (4 ∷ 2 ∷ []) ∷ by_frame 12 3 (3 ∷ []) (7 ∷ []) ∷ []) (times (Missed 0 (At 1)) ([] ∷ (7 ∷ []) ∷ []) ∷ [])
+    ∷ case 2 (with_deadline 20 5 (4 ∷ 2 ∷ []) ∷ by_frame 12 3 (3 ∷ []) (7 ∷ []) ∷ []) (times (Missed 0 (Some 1)) ([] ∷ (7 ∷ []) ∷ []) ∷ [])
     -- no task; a deadline one above the period; a lock one above the largest frame
-    ∷ case 0 [] (times (Refused TaskCount) [] ∷ [])
-    ∷ case 0 (with_deadline 10 11 (3 ∷ []) ∷ []) (times (Refused (IllFormed 0)) [] ∷ [])
-    ∷ case 0 (with_lock 10 4 (3 ∷ []) ∷ []) (times (Refused (Lock 0)) [] ∷ [])
+    ∷ case 0 [] (refused TaskCount ∷ [])
+    ∷ case 0 (with_deadline 10 11 (3 ∷ []) ∷ []) (refused (IllFormed 0) ∷ [])
+    ∷ case 0 (with_lock 10 4 (3 ∷ []) ∷ []) (refused (Lock 0) ∷ [])
     ∷ []

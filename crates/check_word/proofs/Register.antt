@@ -1,13 +1,12 @@
 -- The division in a register: sixteen bits that start at all ones, take in a byte at the top, and go on eight steps for each byte.
+use Rattle.std.specs.List.{fold}
 use mathlib.Core.Bool.{Bool, true, false, xor}
 use mathlib.Core.List.{List, [], ◌∷◌, ◌++◌, append_assoc, append-nil}
 use mathlib.Core.Path.{◌≡◌, refl, sym, ap, ap₂, ◌∙◌}
 use Prim.Native.Nat.{ℕ, zero, suc, ◌+◌, ◌-◌, ◌*◌, ◌^◌, ◌≤◌, ◌<◌}
 use native.Mathlib.Nat.{not-suc-le-zero, le_of_suc-le-suc, zero-add, suc-add, mod-eq_of_lt}
 use native.Mathlib.Omega.{arith}
-use lib.ListN.{length, get_or, drop, replicate, length-append, length-replicate, drop_of_length-le}
-use lib.Seq.{drop-cons}
-use native.Mathlib.Numerals.{add-one}
+use lib.ListN.{length, replicate, length-append, length-replicate}
 use Rattle.bits.specs.Packed.{value, digits, bits_of}
 use Rattle.bits.proofs.Laws.{length_digits, value_digits, digits_value, value_lt, eight_more, length_bits}
 use Rattle.check_word.specs.Division.{added, polynomial, divided, started, check_word}
@@ -153,12 +152,8 @@ register_form s =
     ∙ ap (λ (n : ℕ). value (divided n (started (bits_of s ++ replicate 16 false)))) (length_bits s)
     ∙ register_left 0xFFFF s (omega arith)
 
--- a turn of the loop over the bytes, i of them done
-pub register_turn : (s : List ℕ) (i c : ℕ) → i < length s → register (fed c (get_or s i 0)) (drop (i + 1) s) ≡ register c (drop i s)
+-- which the code folds over the bytes
+pub register_folds : (s : List ℕ) (c : ℕ) → fold fed c s ≡ register c s
 unfolding register
-register_turn s i c h = rw (drop-cons s i 0 h, add-one i)
-
--- and its end
-pub register_end : (s : List ℕ) (i c : ℕ) → length s ≤ i → c ≡ register c (drop i s)
-unfolding register
-register_end s i c h = rw (drop_of_length-le s h)
+register_folds [] c = refl
+register_folds (b ∷ s) c = register_folds s (fed c b)

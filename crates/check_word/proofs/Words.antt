@@ -1,4 +1,5 @@
 -- The code's shifts and masks on numbers of sixteen bits, in bits.
+use Rattle.std.specs.Int.{w16, from_be_bytes, to_be_bytes}
 use mathlib.Core.Bool.{Bool, true, false, xor}
 use mathlib.Core.List.{List, [], ◌∷◌, ◌++◌, append-nil}
 use mathlib.Core.Path.{◌≡◌, refl, sym, ap, ap₂, ◌∙◌}
@@ -6,12 +7,12 @@ use Prim.Native.Nat.{ℕ, zero, suc, ◌+◌, ◌*◌, ◌/◌, ◌%◌, ◌^◌
 use native.Mathlib.Nat.{add-zero, mul-add-mod_self_right, mod-lt, mod-eq_of_lt}
 use native.Mathlib.Omega.{arith}
 use borrow.Author.Tests.{eq-eqb, ne_eqb}
-use lib.Bits.{bit_xor, bit_or, differ, xor_step, xor_shr, xor_mod, xor_lt, or_shifted}
+use lib.Bits.{bit_xor, differ, xor_step, xor_shr, xor_mod, xor_lt}
 use lib.Dec.{eqb, lit<}
-use lib.ListN.{take, replicate}
+use lib.ListN.{length, take, replicate}
 use lib.Pow.{high, low, pow_pos}
 use lib.Seq.{take_at, drop_at, take_all}
-use Rattle.bits.specs.Packed.{value, odd, digits, bits_of, bytes_of}
+use Rattle.bits.specs.Packed.{value, odd, digits, Bytes, bits_of, bytes_of}
 use Rattle.bits.proofs.Laws.{length_digits, value_digits, digits_low, digits_split}
 use Rattle.check_word.specs.Division.{added, polynomial, divided}
 use Rattle.check_word.specs.Inside.Register.{shifted, fed}
@@ -105,22 +106,27 @@ fed_is c b h =
 
 -- ---- a number of sixteen bits and its two bytes
 
-pub word_of : (h l : ℕ) → h < 2 ^ 8 → l < 2 ^ 8 → bit_or ((h * 2 ^ 8) % 2 ^ 16) l ≡ value (bits_of (h ∷ l ∷ []))
+word_value : (h l : ℕ) → h < 2 ^ 8 → l < 2 ^ 8 → h * 2 ^ 8 + l ≡ value (bits_of (h ∷ l ∷ []))
 unfolding bits_of
-word_of h l hh hl =
-    let e : (h * 2 ^ 8) % 2 ^ 16 ≡ h * 2 ^ 8 = omega arith in
+word_value h l hh hl =
     let f : (h * 2 ^ 8 + l) % 2 ^ 16 ≡ h * 2 ^ 8 + l = omega arith in
-    ap (λ (x : ℕ). bit_or x l) e ∙ or_shifted h 8 l hl
-    ∙ sym
+    sym
     (ap (λ (x : List Bool). value (digits 8 h ++ x)) (append-nil (digits 8 l)) ∙ ap value (digits_join 8 8 h l hl)
     ∙ value_digits 16 (h * 2 ^ 8 + l) ∙ f)
 
-pub bytes_word : (c : ℕ) → c < 2 ^ 16 → bytes_of 2 (digits 16 c) ≡ (c / 2 ^ 8) ∷ (c % 2 ^ 8) ∷ []
+-- two bytes are the number that their bits stand for
+pub word_of : (bs : List ℕ) → length bs ≡ 2 → Bytes bs → from_be_bytes w16 bs ≡ value (bits_of bs)
+word_of [] e b = absurd (omega arith)
+word_of (h ∷ []) e b = absurd (omega arith)
+word_of (h ∷ l ∷ []) e b = word_value h l (b 0) (b 1)
+word_of (h ∷ l ∷ x ∷ bs) e b = absurd (omega arith)
+
+-- and the number's bits are those of its two bytes
+pub bytes_word : (c : ℕ) → bytes_of 2 (digits 16 c) ≡ to_be_bytes w16 c
 unfolding bytes_of
-bytes_word c h =
-    let f : c / 2 ^ 8 % 2 ^ 8 ≡ c / 2 ^ 8 = omega arith in
+bytes_word c =
     ap (bytes_of 2) (digits_split 8 8 c)
     ∙ ap₂ (λ (x y : ℕ). x ∷ y ∷ [])
-    (ap value (take_at (digits 8 (c / 2 ^ 8)) (digits 8 c) 8 (length_digits 8 (c / 2 ^ 8))) ∙ value_digits 8 (c / 2 ^ 8) ∙ f)
+    (ap value (take_at (digits 8 (c / 2 ^ 8)) (digits 8 c) 8 (length_digits 8 (c / 2 ^ 8))) ∙ value_digits 8 (c / 2 ^ 8))
     (ap (λ (l : List Bool). value (take 8 l)) (drop_at (digits 8 (c / 2 ^ 8)) (digits 8 c) 8 (length_digits 8 (c / 2 ^ 8)))
     ∙ ap value (take_all 8 (digits 8 c) (omega (arith, length_digits 8 c))) ∙ value_digits 8 c)

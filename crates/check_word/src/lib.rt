@@ -1,8 +1,7 @@
 // The check word of a byte string, by long division bit by bit; whether a byte string is sealed; and the sealing.
 #![tactic(auto)]
 
-ghost use Rattle.std.specs.Prelude.{◌≡◌, [], ◌∷◌, leb, length};
-ghost use Rattle.bits.specs.Packed.{value, bits_of};
+ghost use Rattle.std.specs.Prelude.{◌≡◌, leb, length};
 ghost use Rattle.check_word.specs.Division.{word_size, check_word, sealed, with_seal};
 ghost use Rattle.check_word.specs.Inside.Register.{shifted, fed};
 
@@ -25,10 +24,8 @@ fn feed(c: u16, b: u8) -> u16
     ensures { result ≡ fed c b }
 {
     let mut r = c ^ ((b as u16) << 8);
-    let mut k: usize = 0;
-    while k < 8 {
+    for _ in 0..u8::BITS {
         r = shift(r);
-        k += 1;
     }
     r
 }
@@ -37,33 +34,16 @@ fn feed(c: u16, b: u8) -> u16
 pub fn check_word(bytes: &[u8]) -> u16
     ensures { result ≡ check_word bytes.now }
 {
-    let mut c: u16 = 0xFFFF;
-    let mut i: usize = 0;
-    while i < bytes.len() {
-        c = feed(c, bytes[i]);
-        i += 1;
-    }
-    c
+    bytes.iter().fold(0xFFFF, |c, &b| feed(c, b))
 }
 
-// A 16-bit number from two bytes, the high byte first.
-fn word(high: u8, low: u8) -> u16
-    ensures { result ≡ value (bits_of (high ∷ low ∷ [])) }
-{
-    ((high as u16) << 8) | (low as u16)
-}
-
-// Whether the last two bytes are the check word of those before them.
+// Whether the last two bytes are the check word of those before them, the high byte first.
 pub fn sealed(bytes: &[u8]) -> bool
     ensures { result ≡ sealed bytes.now }
 {
-    let n = bytes.len();
-    if SIZE <= n {
-        let high = n - SIZE;
-        let low = n - 1;
-        word(bytes[high], bytes[low]) == check_word(&bytes[..high])
-    } else {
-        false
+    match bytes.split_last_chunk::<SIZE>() {
+        Some((body, &word)) => u16::from_be_bytes(word) == check_word(body),
+        None => false,
     }
 }
 
@@ -71,14 +51,9 @@ pub fn sealed(bytes: &[u8]) -> bool
 pub fn seal(bytes: &mut [u8]) -> bool
     ensures { (result ≡ leb word_size (length bytes.old)) × (bytes.new ≡ with_seal bytes.old) }
 {
-    let n = bytes.len();
-    if n < SIZE {
+    let Some((body, word)) = bytes.split_last_chunk_mut::<SIZE>() else {
         return false;
-    }
-    let high = n - SIZE;
-    let low = n - 1;
-    let c = check_word(&bytes[..high]);
-    bytes[high] = (c >> 8) as u8;
-    bytes[low] = (c & 0xFF) as u8;
+    };
+    *word = check_word(body).to_be_bytes();
     true
 }

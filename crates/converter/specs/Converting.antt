@@ -1,5 +1,5 @@
 -- SCOPE.md, "Converting": what the converter answers to a version and a sheet, and what it leaves in the lent bytes.
-use Rattle.std.specs.Prelude.{List, [], ◌∷◌, ◌++◌, ℕ, ◌+◌, ◌-◌, length}
+use Rattle.std.specs.Prelude.{List, [], ◌∷◌, ◌++◌, ℕ, ◌+◌, ◌-◌, length, Result}
 use Rattle.lent.specs.Checks.{Check}
 use Rattle.lent.specs.Lent.{Call, answered, left_after}
 use Rattle.sheet.specs.Constants.{version_1, version_2}
@@ -7,8 +7,6 @@ use Rattle.sheet.specs.Reading.{checks_among, policy_of, tasks_of}
 use Rattle.sheet.specs.Writing.{sheet_of, version_check, deadlines_check}
 use Rattle.sheet.specs.declared.Refusal.{Refusal}
 use Rattle.sheet.specs.declared.Refusal.TheVariants.{Room}
-use Rattle.sheet.specs.declared.Written.{Written}
-use Rattle.sheet.specs.declared.Written.TheVariants.{Bytes, TurnedAway}
 
 -- the version that a converter to this one takes, of 1 and 2; every other gets 3 before
 abbrev pub other_version : ℕ → ℕ
@@ -27,17 +25,17 @@ unfoldable pub conversion : ℕ → List ℕ → List ℕ
 conversion version sheet = sheet_of version (policy_of sheet) (tasks_of sheet)
 
 -- converting: these refusals, that sheet as what is written, the count of its bytes as the answer
-unfoldable pub converting : ℕ → List ℕ → Call Refusal ℕ Written
+unfoldable pub converting : ℕ → List ℕ → Call Refusal ℕ ℕ
 converting version sheet =
     record {
       checks = converting_checks version sheet;
       writes = conversion version sheet;
-      says = Bytes (length (conversion version sheet));
+      says = length (conversion version sheet);
     }
 
 -- what the converter answers for a lent room, and what the room holds afterwards
-unfoldable pub converted : ℕ → List ℕ → List ℕ → Written
-converted version sheet room = answered Room TurnedAway (converting version sheet) room
+unfoldable pub converted : ℕ → List ℕ → List ℕ → Result ℕ Refusal
+converted version sheet room = answered Room (converting version sheet) room
 
 unfoldable pub converted_left : ℕ → List ℕ → List ℕ → List ℕ
 converted_left version sheet room = left_after Room (converting version sheet) room

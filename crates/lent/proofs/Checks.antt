@@ -1,7 +1,7 @@
 -- A row of checks, and one row behind another.
+use Rattle.std.specs.Prelude.{None, Option, Some}
 use mathlib.Core.Bool.{Bool, true, false}
 use mathlib.Core.List.{List, [], ◌∷◌, ◌++◌}
-use mathlib.Core.Option.{Option, none, some}
 use mathlib.Core.Path.{◌≡◌, refl, sym, subst, ap, ◌∙◌}
 use Prim.Native.Nat.{ℕ}
 use native.Mathlib.Omega.{arith}
@@ -9,7 +9,7 @@ use Rattle.lent.specs.Checks.{Check, ◌⇒◌, first_refusal, retold}
 
 module _ {R : Type 0} where
   -- a check that applies decides
-  pub applies : (b : Bool) (r : R) (cs : List (Check R)) → b ≡ true → first_refusal ((b ⇒ r) ∷ cs) ≡ some r
+  pub applies : (b : Bool) (r : R) (cs : List (Check R)) → b ≡ true → first_refusal ((b ⇒ r) ∷ cs) ≡ Some r
   unfolding first_refusal
   applies b r cs e = rw e
 
@@ -19,14 +19,14 @@ module _ {R : Type 0} where
   passed_over b r cs e = rw e
 
   -- a row of none turns nothing away
-  pub no_check : first_refusal {R = R} [] ≡ none
+  pub no_check : first_refusal {R = R} [] ≡ None
   unfolding first_refusal
   no_check = refl
 
   -- a refusal, or what comes next where there is none
   abbrev pub or_else : Option R → Option R → Option R
-  or_else none next = next
-  or_else (some r) next = some r
+  or_else None next = next
+  or_else (Some r) next = Some r
 
   pub append : (cs ds : List (Check R)) → first_refusal (cs ++ ds) ≡ or_else (first_refusal cs) (first_refusal ds)
   unfolding first_refusal
@@ -34,34 +34,34 @@ module _ {R : Type 0} where
   append (c ∷ cs) ds = go c.applies (append cs ds)
     where
       go : (b : Bool) → first_refusal (cs ++ ds) ≡ or_else (first_refusal cs) (first_refusal ds)
-          → elim b as (λ (x : Bool). Option R) [ true ↦ some c.refusal | false ↦ first_refusal (cs ++ ds) ]
-          ≡ or_else (elim b as (λ (x : Bool). Option R) [ true ↦ some c.refusal | false ↦ first_refusal cs ]) (first_refusal ds)
+          → elim b as (λ (x : Bool). Option R) [ true ↦ Some c.refusal | false ↦ first_refusal (cs ++ ds) ]
+          ≡ or_else (elim b as (λ (x : Bool). Option R) [ true ↦ Some c.refusal | false ↦ first_refusal cs ]) (first_refusal ds)
       go true e = refl
       go false e = e
 
-  pub none_first : (cs ds : List (Check R)) → first_refusal cs ≡ none → first_refusal (cs ++ ds) ≡ first_refusal ds
+  pub none_first : (cs ds : List (Check R)) → first_refusal cs ≡ None → first_refusal (cs ++ ds) ≡ first_refusal ds
   none_first cs ds e = append cs ds ∙ ap (λ (a : Option R). or_else a (first_refusal ds)) e
 
-  pub some_first : (cs ds : List (Check R)) (r : R) → first_refusal cs ≡ some r → first_refusal (cs ++ ds) ≡ some r
+  pub some_first : (cs ds : List (Check R)) (r : R) → first_refusal cs ≡ Some r → first_refusal (cs ++ ds) ≡ Some r
   some_first cs ds r e = append cs ds ∙ ap (λ (a : Option R). or_else a (first_refusal ds)) e
 
   -- where nothing is turned away the first check does not apply, and the others turn nothing away
-  pub passed : (c : Check R) (cs : List (Check R)) → first_refusal (c ∷ cs) ≡ none → (c.applies ≡ false) × (first_refusal cs ≡ none)
+  pub passed : (c : Check R) (cs : List (Check R)) → first_refusal (c ∷ cs) ≡ None → (c.applies ≡ false) × (first_refusal cs ≡ None)
   unfolding first_refusal
   passed c cs e = go c.applies e
     where
-      go : (b : Bool) → ◌≡◌ {A = Option R} (elim b as (λ (x : Bool). Option R) [ true ↦ some c.refusal | false ↦ first_refusal cs ]) none
-          → (b ≡ false) × (first_refusal cs ≡ none)
+      go : (b : Bool) → ◌≡◌ {A = Option R} (elim b as (λ (x : Bool). Option R) [ true ↦ Some c.refusal | false ↦ first_refusal cs ]) None
+          → (b ≡ false) × (first_refusal cs ≡ None)
       go true q = let z : ◌≡◌ {A = ℕ} 0 1 = cc in let z : ⊥ = omega arith in absurd z
       go false q = (refl, q)
 
-  pub both_passed : (cs ds : List (Check R)) → first_refusal (cs ++ ds) ≡ none → (first_refusal cs ≡ none) × (first_refusal ds ≡ none)
+  pub both_passed : (cs ds : List (Check R)) → first_refusal (cs ++ ds) ≡ None → (first_refusal cs ≡ None) × (first_refusal ds ≡ None)
   both_passed cs ds e = go (first_refusal cs) refl (sym (append cs ds) ∙ e)
     where
-      go : (a : Option R) → first_refusal cs ≡ a → or_else (first_refusal cs) (first_refusal ds) ≡ none → (first_refusal cs ≡ none) × (first_refusal ds ≡ none)
-      go none p q = (p, ap (λ (x : Option R). or_else x (first_refusal ds)) (sym p) ∙ q)
-      go (some r) p q =
-          let w : some r ≡ none = ap (λ (x : Option R). or_else x (first_refusal ds)) (sym p) ∙ q in
+      go : (a : Option R) → first_refusal cs ≡ a → or_else (first_refusal cs) (first_refusal ds) ≡ None → (first_refusal cs ≡ None) × (first_refusal ds ≡ None)
+      go None p q = (p, ap (λ (x : Option R). or_else x (first_refusal ds)) (sym p) ∙ q)
+      go (Some r) p q =
+          let w : Some r ≡ None = ap (λ (x : Option R). or_else x (first_refusal ds)) (sym p) ∙ q in
           let z : ◌≡◌ {A = ℕ} 0 1 = cc in
           let z : ⊥ = omega arith in
           absurd z
@@ -69,25 +69,25 @@ module _ {R : Type 0} where
 -- ---- refusals told in another way
 
 module _ {R S : Type 0} (f : R → S) where
-  pub retold_none : (cs : List (Check R)) → first_refusal cs ≡ none → first_refusal (retold f cs) ≡ none
+  pub retold_none : (cs : List (Check R)) → first_refusal cs ≡ None → first_refusal (retold f cs) ≡ None
   unfolding retold first_refusal
   retold_none [] e = refl
   retold_none (c ∷ cs) e = go c.applies e (retold_none cs)
     where
-      go : (b : Bool) → ◌≡◌ {A = Option R} (elim b as (λ (x : Bool). Option R) [ true ↦ some c.refusal | false ↦ first_refusal cs ]) none
-          → (first_refusal cs ≡ none → first_refusal (retold f cs) ≡ none)
-          → ◌≡◌ {A = Option S} (elim b as (λ (x : Bool). Option S) [ true ↦ some (f c.refusal) | false ↦ first_refusal (retold f cs) ]) none
+      go : (b : Bool) → ◌≡◌ {A = Option R} (elim b as (λ (x : Bool). Option R) [ true ↦ Some c.refusal | false ↦ first_refusal cs ]) None
+          → (first_refusal cs ≡ None → first_refusal (retold f cs) ≡ None)
+          → ◌≡◌ {A = Option S} (elim b as (λ (x : Bool). Option S) [ true ↦ Some (f c.refusal) | false ↦ first_refusal (retold f cs) ]) None
       go true q later = let z : ◌≡◌ {A = ℕ} 0 1 = cc in let y : ⊥ = omega arith in absurd y
       go false q later = later q
 
-  pub retold_some : (cs : List (Check R)) (r : R) → first_refusal cs ≡ some r → first_refusal (retold f cs) ≡ some (f r)
+  pub retold_some : (cs : List (Check R)) (r : R) → first_refusal cs ≡ Some r → first_refusal (retold f cs) ≡ Some (f r)
   unfolding retold first_refusal
   retold_some [] r e = let z : ◌≡◌ {A = ℕ} 0 1 = cc in let y : ⊥ = omega arith in absurd y
   retold_some (c ∷ cs) r e = go c.applies e (retold_some cs r)
     where
-      go : (b : Bool) → ◌≡◌ {A = Option R} (elim b as (λ (x : Bool). Option R) [ true ↦ some c.refusal | false ↦ first_refusal cs ]) (some r)
-          → (first_refusal cs ≡ some r → first_refusal (retold f cs) ≡ some (f r))
-          → ◌≡◌ {A = Option S} (elim b as (λ (x : Bool). Option S) [ true ↦ some (f c.refusal) | false ↦ first_refusal (retold f cs) ]) (some (f r))
+      go : (b : Bool) → ◌≡◌ {A = Option R} (elim b as (λ (x : Bool). Option R) [ true ↦ Some c.refusal | false ↦ first_refusal cs ]) (Some r)
+          → (first_refusal cs ≡ Some r → first_refusal (retold f cs) ≡ Some (f r))
+          → ◌≡◌ {A = Option S} (elim b as (λ (x : Bool). Option S) [ true ↦ Some (f c.refusal) | false ↦ first_refusal (retold f cs) ]) (Some (f r))
       go true q later = let same : c.refusal ≡ r = cc in rw same
       go false q later = later q
 
@@ -99,16 +99,16 @@ module _ {R : Type 0} (P : R → Type 0) where
   Each [] = Unit {0}
   Each (c ∷ cs) = (c.applies ≡ true → P c.refusal) × (c.applies ≡ false → Each cs)
 
-  pub each_append : (cs ds : List (Check R)) → Each cs → (first_refusal cs ≡ none → Each ds) → Each (cs ++ ds)
+  pub each_append : (cs ds : List (Check R)) → Each cs → (first_refusal cs ≡ None → Each ds) → Each (cs ++ ds)
   each_append [] ds n m = m no_check
   each_append (c ∷ cs) ds n m = (n.0, λ e. each_append cs ds (n.1 e) (λ none_applies. m (passed_over c.applies c.refusal cs e ∙ none_applies)))
 
-  pub each_first : (cs : List (Check R)) → Each cs → (r : R) → first_refusal cs ≡ some r → P r
+  pub each_first : (cs : List (Check R)) → Each cs → (r : R) → first_refusal cs ≡ Some r → P r
   unfolding first_refusal
   each_first [] n r e = let z : ◌≡◌ {A = ℕ} 0 1 = cc in let y : ⊥ = omega arith in absurd y
   each_first (c ∷ cs) n r e = go c.applies refl e (λ (later : Each cs). each_first cs later r)
     where
-      go : (b : Bool) → c.applies ≡ b → ◌≡◌ {A = Option R} (elim b as (λ (x : Bool). Option R) [ true ↦ some c.refusal | false ↦ first_refusal cs ]) (some r)
-          → (Each cs → first_refusal cs ≡ some r → P r) → P r
+      go : (b : Bool) → c.applies ≡ b → ◌≡◌ {A = Option R} (elim b as (λ (x : Bool). Option R) [ true ↦ Some c.refusal | false ↦ first_refusal cs ]) (Some r)
+          → (Each cs → first_refusal cs ≡ Some r → P r) → P r
       go true a q rec = let z : c.refusal ≡ r = cc in subst P z (n.0 a)
       go false a q rec = rec (n.1 a) q

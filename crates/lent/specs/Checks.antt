@@ -1,6 +1,5 @@
 -- SCOPE.md, "What is turned away": a row of reasons, of which the first that applies decides. Over any kind of refusal.
-use Rattle.std.specs.Prelude.{Bool, true, false, List, [], ◌∷◌}
-use Rattle.std.proofs.Math.Option.{Option, none, some}
+use Rattle.std.specs.Prelude.{Bool, true, false, List, [], ◌∷◌, None, Option, Some}
 
 -- a reason to turn away, and the refusal where it applies
 pub record Check (R : Type 0) : Type 0 where
@@ -13,8 +12,8 @@ b ⇒ r = record { applies = b; refusal = r }
 
 -- the refusal of the first check that applies; none where none does
 unfoldable pub first_refusal : {R : Type 0} → List (Check R) → Option R
-first_refusal [] = none
-first_refusal (c ∷ cs) = elim c.applies [ true ↦ some c.refusal | false ↦ first_refusal cs ]
+first_refusal [] = None
+first_refusal (c ∷ cs) = elim c.applies [ true ↦ Some c.refusal | false ↦ first_refusal cs ]
 
 -- the same reasons, their refusals told in another way
 unfoldable pub retold : {R S : Type 0} → (R → S) → List (Check R) → List (Check S)

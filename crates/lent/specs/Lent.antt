@@ -1,7 +1,6 @@
 -- SCOPE.md, "Lent memory": room too small is looked at last, what is written stands first, surplus room keeps its content, a refusal changes
 -- nothing. Over any kind of refusal, element and answer.
-use Rattle.std.specs.Prelude.{List, [], ◌∷◌, ◌++◌, ltb, length, drop}
-use Rattle.std.proofs.Math.Option.{Option, none, some}
+use Rattle.std.specs.Prelude.{List, [], ◌∷◌, ◌++◌, ltb, length, drop, Option, Some, None, Result, Ok, Err}
 use Rattle.lent.specs.Checks.{Check, ◌⇒◌, first_refusal}
 
 -- A call that is lent memory: its own reasons to turn away, in their order; what it writes where none applies; what it then answers.
@@ -19,9 +18,9 @@ unfoldable pub refusal_of : {R A X : Type 0} → R → Call R A X → List A →
 refusal_of full call memory = first_refusal (call.checks ++ (ltb (length memory) (length call.writes) ⇒ full) ∷ [])
 
 -- what the call answers
-unfoldable pub answered : {R A X : Type 0} → R → (R → X) → Call R A X → List A → X
-answered full refused call memory = elim (refusal_of full call memory) [ none ↦ call.says | some r ↦ refused r ]
+unfoldable pub answered : {R A X : Type 0} → R → Call R A X → List A → Result X R
+answered full call memory = elim (refusal_of full call memory) [ None ↦ Ok call.says | Some r ↦ Err r ]
 
 -- what the memory holds afterwards
 unfoldable pub left_after : {R A X : Type 0} → R → Call R A X → List A → List A
-left_after full call memory = elim (refusal_of full call memory) [ none ↦ laid call.writes memory | some r ↦ memory ]
+left_after full call memory = elim (refusal_of full call memory) [ None ↦ laid call.writes memory | Some r ↦ memory ]

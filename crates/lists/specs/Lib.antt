@@ -1,4 +1,3 @@
 -- What the lists' contracts cite.
 pub mod Lists
 pub mod Faces
-pub mod Inside

@@ -1,161 +1,102 @@
 -- What stands below a place of an ordered set: the largest lock there, and the first task that has it.
-use mathlib.Core.List.{List, map}
-use mathlib.Core.Option.{none}
-use mathlib.Core.Path.{◌≡◌, sym, ap, ◌∙◌}
-use Prim.Native.Nat.{ℕ, suc, ◌+◌, ◌-◌, ◌≤◌, ◌<◌, min, max}
-use native.Mathlib.Decide.{ℕ_discrete}
-use native.Mathlib.Numerals.{add-one}
-use native.Mathlib.Omega.{arith}
-use lib.ListN.{length, get_or, take, drop, length-map, drop_of_length-le}
-use lib.Seq.{drop-cons, length-take-le}
+use Rattle.std.proofs.Common.{◌≡◌, ℕ, suc, ◌+◌, ◌-◌, ◌≤◌, ◌<◌, Bool, ◌&&◌, leb, List, [], ◌∷◌, map, length, get_or, drop, max, Option, None, Some, sym, ap, ◌∙◌, arith, length-drop}
+use Rattle.std.specs.List.{position, position_or_len, fold}
+use Rattle.std.specs.Option.{option_map}
+use Rattle.std.proofs.lemmas.List.{drop-map}
+use Rattle.std.proofs.lemmas.List.Sums.{fails_before_first, passes_at_first}
+use Rattle.std.proofs.lemmas.List.Quantifiers.{position-Some}
+use borrow.Author.Tests.{lt-ltb, le-ltb}
+use native.Mathlib.Decide.{dec_lt}
+use lib.Seq.{get_or-drop}
+use Rattle.theory.specs.First.{first}
 use Rattle.theory.specs.Tasks.{Task, task_at, largest}
-use Rattle.theory.specs.Analysis.{lower, largest_lock, blocking, blocker}
-use Rattle.theory.proofs.Blocking.{IsBlocker, blocker_when, no_blocker_when, largest_lock_last}
-use Rattle.sheet.specs.Constants.{most_tasks}
+use Rattle.theory.specs.Analysis.{lower, largest_lock, blocker}
+use Rattle.theory.proofs.Search.{first_is, first_is_none}
 use Rattle.sheet.specs.Tasks.{task_in}
-use Rattle.sheet.specs.declared.Task.{Task as Record}
-use Rattle.sheet.proofs.Records.{taken_slots}
-use Rattle.order.specs.Inside.Below.{FirstLargest}
-use Rattle.order.specs.Ordered.{tasks_in_order, blocking_at, blocker_at}
+use Rattle.order.specs.Ordered.{no_place, in_use, tasks_in_order, blocker_at}
 use Rattle.order.specs.declared.Ordered.{Ordered}
-use Rattle.order.specs.declared.Blocker.TheVariants.{At, Nobody}
-use Rattle.order.proofs.Records.{task_there}
+use Rattle.order.specs.declared.Place.{Place}
+use Rattle.order.proofs.Records.{places_length, place_task}
 
-module _ (tasks : List Record) (n : ℕ) where
-  -- the largest lock from place q on
-  pub rest_lock : ℕ → ℕ
-  rest_lock q = largest_lock (drop q (map task_in (take n tasks)))
+-- the largest lock, as the code folds it
+fold_largest : (a : ℕ) (ps : List Place) → fold (λ (m : ℕ) (q : Place). max m q.task.lock) a ps ≡ max a (largest (map (λ t. t.lock) (map (λ q. task_in q.task) ps)))
+unfolding largest task_in
+fold_largest a [] = omega arith
+fold_largest a (q ∷ ps) = fold_largest (max a q.task.lock) ps ∙ omega arith
 
-  pub rest_none : (p : ℕ) → max 0 (rest_lock (p + 1)) ≡ largest_lock (lower (map task_in (take n tasks)) p)
-  unfolding rest_lock lower
-  rest_none p = rw (add-one p) (omega arith)
+pub largest_is : (ps : List Place) → fold (λ (m : ℕ) (q : Place). max m q.task.lock) 0 ps ≡ largest_lock (map (λ q. task_in q.task) ps)
+unfolding largest_lock
+largest_is ps = fold_largest 0 ps ∙ omega arith
 
-  module _ (w : n ≤ length tasks) where
-    pub in_use_length : length (map task_in (take n tasks)) ≡ n
-    in_use_length = length-map (take n tasks) task_in ∙ length-take-le n tasks w
+module _ (o : Ordered) (p : ℕ) where
+  abbrev pub below : List Place
+  below = drop (suc p) (in_use o)
 
-    pub lock_there : (q : ℕ) (d : Record) → q < n → (task_at (map task_in (take n tasks)) q).lock ≡ (get_or tasks q d).lock
-    unfolding task_in
-    lock_there q d h = ap (λ t. t.lock) (task_there tasks n q d h w)
+  -- the tasks below place p stand at the places below it
+  pub tasks_below : map (λ q. task_in q.task) below ≡ lower (tasks_in_order o) p
+  unfolding lower tasks_in_order
+  tasks_below = sym (drop-map (λ (q : Place). task_in q.task) (suc p) (in_use o))
 
-    rest_more : (q : ℕ) (d : Record) → q < n → rest_lock q ≡ max (get_or tasks q d).lock (rest_lock (q + 1))
-    unfolding rest_lock largest_lock largest task_at
-    rest_more q d h =
-        rw (add-one q)
-        (ap (λ ts. largest (map (λ t. t.lock) ts)) (drop-cons (map task_in (take n tasks)) q _ (omega (arith, in_use_length)))
-        ∙ ap (λ x. max x (largest (map (λ t. t.lock) (drop (suc q) (map task_in (take n tasks)))))) (lock_there q d h))
+  task_below : (k : ℕ) → k < length below → task_at (tasks_in_order o) (suc p + k) ≡ task_in (get_or below k no_place).task
+  task_below k h =
+      place_task o (suc p + k) no_place (omega (arith, length-drop (suc p) (in_use o)))
+      ∙ ap (λ (q : Place). task_in q.task) (sym (get_or-drop (suc p) (in_use o) k no_place))
 
-    pub rest_all : (q : ℕ) → n ≤ q → rest_lock q ≡ 0
-    unfolding rest_lock largest_lock largest
-    rest_all q h = ap (λ ts. largest (map (λ t. t.lock) ts)) (drop_of_length-le (map task_in (take n tasks)) {i = q} (omega (arith, in_use_length)))
+  as_many : length (tasks_in_order o) - suc p ≡ length below
+  as_many = omega (arith, places_length o, length-drop (suc p) (in_use o))
 
-  -- of the places between p and q: the largest lock m, and the first place that has it, where m is not 0
-  pub record Seen (p q m at : ℕ) : Type 0 where
-    pub with_rest : max m (rest_lock q) ≡ largest_lock (lower (map task_in (take n tasks)) p)
-    pub at_most : (u : ℕ) → p < u → u < q → (task_at (map task_in (take n tasks)) u).lock ≤ m
-    pub is_there : 1 ≤ m → (p < at) × (at < q) × ((task_at (map task_in (take n tasks)) at).lock ≡ m)
-    pub is_first : 1 ≤ m → (u : ℕ) → p < u → u < at → (task_at (map task_in (take n tasks)) u).lock < m
+  module _ (test : Task → Bool) where
+    on_place : Place → Bool
+    on_place q = test (task_in q.task)
 
-  pub seen_none : (p at : ℕ) → Seen p (p + 1) 0 at
-  seen_none p at =
-      record {
-        with_rest = rest_none p;
-        at_most = λ u h k. let z : ⊥ = omega arith in absurd z;
-        is_there = λ h. let z : ⊥ = omega arith in absurd z;
-        is_first = λ h. let z : ⊥ = omega arith in absurd z;
-      }
+    test_there : (u : ℕ) → suc p ≤ u → u < suc p + length below → on_place (get_or below (u - suc p) no_place) ≡ test (task_at (tasks_in_order o) u)
+    unfolding on_place
+    test_there u h l =
+        let there : suc p + (u - suc p) ≡ u = omega arith in
+        ap test (sym (task_below (u - suc p) (omega arith))) ∙ ap (λ (q : ℕ). test (task_at (tasks_in_order o) q)) there
 
-  module _ (w : n ≤ length tasks) (p q m at : ℕ) (d : Record) (h : q < n) (from : p < q) (s : Seen p q m at) where
-    -- a larger one is taken, with its place
-    pub seen_larger : m < (get_or tasks q d).lock → Seen p (q + 1) (get_or tasks q d).lock q
-    seen_larger less =
-        let lock : (task_at (map task_in (take n tasks)) q).lock ≡ (get_or tasks q d).lock = lock_there w q d h in
-        record {
-          with_rest = omega (arith, s.with_rest, rest_more w q d h);
-          at_most = λ u l k. up_to lock u l k (ℕ_discrete u q);
-          is_there = λ o. (from, omega arith, lock);
-          is_first = λ o u l k. omega (arith, s.at_most u l k);
-        }
+    abbrev first_task : Option ℕ
+    first_task = first (suc p) (length (tasks_in_order o) - suc p) (λ q. test (task_at (tasks_in_order o) q))
+
+    found_below : position_or_len on_place below < length below → first_task ≡ Some (p + 1 + position_or_len on_place below)
+    found_below h =
+        let k = position_or_len on_place below in
+        let there : p + 1 + k - suc p ≡ k = omega arith in
+        first_is _ _ _ (record {
+          from = omega arith;
+          before = omega (arith, as_many);
+          passes = sym (test_there (p + 1 + k) (omega arith) (omega arith)) ∙ ap (λ (i : ℕ). on_place (get_or below i no_place)) there ∙ passes_at_first on_place below no_place h;
+          earlier = λ u l m. sym (test_there u l (omega arith)) ∙ fails_before_first on_place below (u - suc p) no_place (omega arith);
+        })
+
+    not_below : length below ≤ position_or_len on_place below → first_task ≡ None
+    not_below h =
+        first_is_none _ _ _ (λ u l m.
+        sym (test_there u l (omega (arith, as_many))) ∙ fails_before_first on_place below (u - suc p) no_place (omega (arith, as_many)))
+
+    -- the first task below that passes a test stands where the first place does
+    first_below : first_task ≡ option_map (λ k. p + 1 + k) (position (λ (q : Place). test (task_in q.task)) below)
+    unfolding on_place
+    first_below = go (dec_lt (position_or_len (λ (q : Place). test (task_in q.task)) below) (length below))
       where
-        up_to : (task_at (map task_in (take n tasks)) q).lock ≡ (get_or tasks q d).lock → (u : ℕ) → p < u → u < q + 1 → Dec (u ≡ q)
-            → (task_at (map task_in (take n tasks)) u).lock ≤ (get_or tasks q d).lock
-        up_to lock u l k (yes e) = rw e (omega arith)
-        up_to lock u l k (no ne) = omega (arith, s.at_most u l (omega arith))
+        go : Dec (position_or_len (λ (q : Place). test (task_in q.task)) below < length below)
+            → first_task ≡ option_map (λ k. p + 1 + k) (position (λ (q : Place). test (task_in q.task)) below)
+        go (yes h) = rw (lt-ltb _ _ h) (found_below h)
+        go (no h) = rw (le-ltb (position_or_len (λ (q : Place). test (task_in q.task)) below) (length below) (omega arith)) (not_below (omega arith))
 
-    pub seen_other : (get_or tasks q d).lock ≤ m → Seen p (q + 1) m at
-    seen_other le =
-        record {
-          with_rest = omega (arith, s.with_rest, rest_more w q d h);
-          at_most = λ u l k. up_to u l k (ℕ_discrete u q);
-          is_there = λ o. let t = s.is_there o in (t.0, omega arith, t.2);
-          is_first = s.is_first;
-        }
-      where
-        up_to : (u : ℕ) → p < u → u < q + 1 → Dec (u ≡ q) → (task_at (map task_in (take n tasks)) u).lock ≤ m
-        up_to u l k (yes e) = rw e (omega (arith, lock_there w q d h))
-        up_to u l k (no ne) = s.at_most u l (omega arith)
+  the_blocker : (lock : ℕ) → lock ≡ largest_lock (map (λ q. task_in q.task) below)
+      → blocker_at o p ≡ option_map (λ k. p + 1 + k) (position (λ (q : Place). leb 2 q.task.lock && leb lock q.task.lock) below)
+  unfolding blocker_at blocker task_in
+  the_blocker lock e =
+      let same : lock ≡ largest_lock (lower (tasks_in_order o) p) = e ∙ ap largest_lock tasks_below in
+      rw (← same) (first_below (λ (t : Task). leb 2 t.lock && leb lock t.lock))
 
-  pub seen_all : (w : n ≤ length tasks) (p q m at : ℕ) → n ≤ q → q ≤ n → Seen p q m at → FirstLargest (map task_in (take n tasks)) p m at
-  seen_all w p q m at h k s =
-      record {
-        is_largest = omega (arith, s.with_rest, rest_all w q h);
-        is_there = λ o. let t = s.is_there o in (t.0, omega (arith, in_use_length w), t.2);
-        is_first = s.is_first;
-      }
+  module _ (places : List Place) (lock : ℕ) (r : Option ℕ) (here : places ≡ below) (largest_is : lock ≡ largest_lock (map (λ q. task_in q.task) places))
+      (first_is : r ≡ position (λ (q : Place). leb 2 q.task.lock && leb lock q.task.lock) places) where
+    -- the first place below with the largest lock is the blocker's
+    pub blocker_is : blocker_at o p ≡ option_map (λ k. p + 1 + k) r
+    blocker_is = the_blocker lock (rw here at largest_is) ∙ ap (option_map (λ k. p + 1 + k)) (sym (rw here at first_is))
 
--- the tasks of an ordered set are the records in use
-pub in_use : (o : Ordered) (n : ℕ) → (n ≡ min o.count most_tasks) × (length o.tasks ≡ most_tasks)
-    → tasks_in_order o ≡ map task_in (take n o.tasks)
-unfolding tasks_in_order
-in_use o n used = rw used.0 (ap (map task_in) (sym (taken_slots o.tasks o.count most_tasks used.1)))
-
-module _ (o : Ordered) (n p : ℕ) (used : (n ≡ min o.count most_tasks) × (length o.tasks ≡ most_tasks)) where
-  ts : List Task
-  ts = map task_in (take n o.tasks)
-
-  same : tasks_in_order o ≡ ts
-  unfolding ts
-  same = in_use o n used
-
-  count_of : length ts ≡ n
-  unfolding ts
-  count_of = in_use_length o.tasks n (omega arith)
-
-  pub blocking_past : n ≤ p → 0 ≡ blocking_at o p
-  unfolding blocking_at blocking
-  blocking_past h = rw same (omega (arith, largest_lock_last ts p (omega (arith, count_of))))
-
-  pub blocking_is : (m at : ℕ) → FirstLargest (map task_in (take n o.tasks)) p m at → m - 1 ≡ blocking_at o p
-  unfolding blocking_at blocking ts
-  blocking_is m at f = rw same (ap (λ y. y - 1) f.is_largest)
-
-  none_at : blocker ts p ≡ none → Nobody ≡ blocker_at o p
-  unfolding blocker_at
-  none_at x = rw (same, x)
-
-  pub blocker_past : n ≤ p → Nobody ≡ blocker_at o p
-  blocker_past h = none_at (no_blocker_when ts p (omega (arith, largest_lock_last ts p (omega (arith, count_of)))))
-
-  module _ (m at : ℕ) (f : FirstLargest (map task_in (take n o.tasks)) p m at) where
-    pub blocker_small : m < 2 → Nobody ≡ blocker_at o p
-    unfolding ts
-    blocker_small h = none_at (no_blocker_when ts p (omega (arith, f.is_largest)))
-
-    pub blocker_place : 1 ≤ m → at < most_tasks
-    unfolding ts
-    blocker_place one = omega (arith, f.is_there one, count_of)
-
-    pub blocker_found : 2 ≤ m → At at ≡ blocker_at o p
-    unfolding blocker_at ts
-    blocker_found two =
-        let one : 1 ≤ m = omega arith in
-        let t = f.is_there one in
-        let is : IsBlocker ts p at =
-        record {
-          below = t.0;
-          in_set = t.1;
-          locks = omega arith;
-          has_largest = t.2 ∙ f.is_largest;
-          is_first = λ u l r. omega (arith, f.is_first one u l r, f.is_largest);
-        } in
-        rw (same, blocker_when ts p is)
+    pub blocker_in : (k : ℕ) → r ≡ Some k → p + 1 + k < length (in_use o)
+    blocker_in k e =
+        omega (arith, position-Some (λ (q : Place). leb 2 q.task.lock && leb lock q.task.lock) below k no_place (sym (rw here at first_is) ∙ e), length-drop (suc p) (in_use o))

@@ -2,7 +2,7 @@
 pub mod Higher
 pub mod Order
 pub mod Records
-pub mod Rows
+pub mod Sorted
 pub mod Keys
 pub mod ByKeys
 pub mod Below

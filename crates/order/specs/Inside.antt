@@ -1,3 +1,2 @@
 -- Definitions that only private contracts use.
 pub mod Keys
-pub mod Below

@@ -6,15 +6,10 @@ ghost use Rattle.bits.specs.Faces.{taken, fits, stored};
 ghost use Rattle.check_word.specs.Division.{word_size, check_word, sealed, with_seal};
 ghost use Rattle.outside.specs.Numbers.{number_seen};
 
-use bits::Taken;
-
-fn number_seen(t: Taken) -> u64
+fn number_seen(t: Option<u32>) -> u64
     ensures { result ≡ number_seen t }
 {
-    match t {
-        Taken::Value(v) => v as u64,
-        Taken::Outside => 0x1_0000_0000,
-    }
+    t.map_or(0x1_0000_0000, u64::from)
 }
 
 #[unsafe(no_mangle)]

@@ -1,13 +1,12 @@
 -- The course of a play, moment by moment: the player's state shows the run's, and the entries up to now are released.
+use Rattle.std.specs.Prelude.{None, Some, IfSome}
 use mathlib.Core.Bool.{true, false}
 use mathlib.Core.List.Memᴰ
 use mathlib.Core.List.{List, [], ◌∷◌, Memᴰ}
 use mathlib.Core.Logic.{◌⊎◌, inl, inr}
-use mathlib.Core.Option
-use mathlib.Core.Option.{none, some}
 use mathlib.Core.Path.{◌≡◌, refl, sym, ap, subst, ◌∙◌}
 use Prim.Native.Nat.{ℕ, zero, suc, ◌≤◌, ◌<◌}
-use native.Mathlib.Decide.{dec_le, dec_lt}
+use native.Mathlib.Decide.{dec_lt}
 use native.Mathlib.Nat.{le_refl, le_trans}
 use native.Mathlib.Omega.{arith}
 use lib.ListN.{length, get_or, take, drop, set, replicate, length-replicate, length-set, drop_of_length-le}
@@ -20,11 +19,11 @@ use Rattle.theory.proofs.Steps.{oldest, Picked, in_stretch, highest, idle, picke
 use Rattle.theory.proofs.Lanes.{total, oldest_none}
 use Rattle.sheet.specs.Constants.{most_tasks}
 use Rattle.order.specs.Claims.{Permutes}
-use Rattle.analysis.specs.Times.{place_of}
+use Rattle.analysis.specs.Times.{number_at, place_of}
 use Rattle.analysis.proofs.Numbering.{number_back}
 use Rattle.plays.specs.Script.{Script, no_entry}
 use Rattle.plays.specs.ScriptRun.{by_place, released_at, choice, script_state, script_run, new_stretch}
-use Rattle.plays.specs.Play.{script_seen, task_misses, misser, all_done, shown_task, shown}
+use Rattle.plays.specs.Play.{script_seen, task_misses, misser, all_done, shown}
 use Rattle.plays.specs.declared.Entry.{Entry}
 use Rattle.plays.proofs.States.{run_seen}
 use Rattle.plays.proofs.ScriptLegal.{script_legal}
@@ -34,20 +33,21 @@ use Rattle.plays.proofs.OnePending.{released_alone, oldest_at_most}
 use Rattle.plays.proofs.ScriptLanes.{by_place_length, place_found, number_found, task_of_number, by_place_admitted, script_next_in}
 use Rattle.plays.specs.Says.{AllReleased}
 use Rattle.plays.proofs.AllDone.{done_is, undone_is}
-use Rattle.player.specs.State.{at_rest, released, picked_by, ticked, late, first_late, misser_in, looking_ahead, shown_byte}
+use Rattle.player.specs.State.{at_rest, released, picked_by, ticked, no_job, late, misser_in, looking_ahead, shown_byte}
 use Rattle.player.specs.Shows.{Shows, rests}
 use Rattle.player.specs.Inside.Course.{Ready, InPlay, Seen, NextFrames}
+use Rattle.player.specs.declared.state.Job.{Job as Kept}
 use Rattle.player.specs.declared.state.Player.{Player}
 use Rattle.player.proofs.Slots.{slot_late}
 use Rattle.player.proofs.Soonest.{misser_is}
-use Rattle.player.proofs.Steps.{pick_shows, picked_shows, ahead_shows, tick_shows, tick_byte}
+use Rattle.player.proofs.Steps.{numbered, pick_shows, picked_shows, ahead_shows, tick_shows, tick_byte}
 use Rattle.player.proofs.Releases.{Seeing, Turning, seeing_none, turning_none, seeing_more, frame_here, turning_more, seeing_all, turning_all, release_there}
 
--- a row of zeros is zero at each place, and behind its end
-getD_zeros : (n i : ℕ) → ◌≡◌ {A = ℕ} (get_or (replicate n 0) i 0) 0
-getD_zeros zero i = refl
-getD_zeros (suc n) zero = refl
-getD_zeros (suc n) (suc i) = getD_zeros n i
+-- in a row of empty slots each is empty, and so behind its end
+no_jobs : (n i : ℕ) → get_or (replicate n no_job) i no_job ≡ no_job
+no_jobs zero i = refl
+no_jobs (suc n) zero = refl
+no_jobs (suc n) (suc i) = no_jobs n i
 
 module _ (order : List ℕ) (tasks : List Task) (sc : Script) where
   -- in the middle of the releases of tick t
@@ -71,17 +71,15 @@ module _ (order : List ℕ) (tasks : List Task) (sc : Script) where
               coming = refl;
               holder = λ h. let z : ⊥ = omega arith in absurd z;
               no_sooner = λ i h l. let z : ⊥ = omega (arith, zeros i) in absurd z;
-              left_room = length-replicate {A = ℕ} most_tasks 0;
-              due_room = length-replicate {A = ℕ} most_tasks 0;
-              lock_room = length-replicate {A = ℕ} most_tasks 0;
+              room = length-replicate {A = Kept} most_tasks no_job;
             };
         released_before = λ d m. absurd (Memᴰ.not-nil m);
         rest_from = λ d m. omega arith;
         within = omega arith;
       }
     where
-      zeros : (i : ℕ) → get_or at_rest.left i 0 ≡ 0
-      zeros i = getD_zeros most_tasks i
+      zeros : (i : ℕ) → (get_or at_rest.jobs i no_job).left ≡ 0
+      zeros i = ap (λ j. j.left) (no_jobs most_tasks i)
 
   -- the first frames are kept
   pub first_kept : Permutes (length tasks) order → (frames : List ℕ) → length frames ≡ most_tasks → ((i : ℕ) → i < length tasks → get_or frames i 0 ≡ get_or sc.firsts i 0)
@@ -94,13 +92,11 @@ module _ (order : List ℕ) (tasks : List Task) (sc : Script) where
 
   -- the player finds the task that misses
   pub finds_misser : (t : ℕ) (player : Player) → Shows order tasks sc (script_state order tasks sc t) player
-      → misser_in player (length tasks) t ≡ Option.get_or (misser order tasks sc t) most_tasks
-  unfolding first_late misser task_misses
+      → misser_in player (length tasks) t ≡ misser order tasks sc t
+  unfolding misser task_misses
   finds_misser t player shows =
       misser_is player (length tasks) t shows.no_sooner
-      ∙ ap (λ o. Option.get_or o most_tasks)
-      (first_same 0 (length tasks) (λ i. late (get_or player.left i 0) (get_or player.due i 0) t) (task_misses order tasks sc t)
-      (λ i h. sym (slot_late t (shows.slots i (omega arith)))))
+      ∙ first_same 0 (length tasks) (λ i. late (get_or player.jobs i no_job) t) (task_misses order tasks sc t) (λ i h. sym (slot_late t (shows.slots i (omega arith))))
 
   module _ (ready : Ready order tasks sc) where
     -- looking ahead changes nothing of what is shown
@@ -176,7 +172,7 @@ module _ (order : List ℕ) (tasks : List Task) (sc : Script) where
           alone =
               released_alone order tasks sc ready.permutes ready.admitted legal (place_of order e.task)
               (place_found order tasks ready.permutes e.task (entry_in_set tasks sc ready.kept j in_row)) t calm
-              (subst (λ u. released_at order sc u (place_of order e.task) ≡ some e.work) now
+              (subst (λ u. released_at order sc u (place_of order e.task) ≡ Some e.work) now
               (release_there order tasks sc ready.kept ready.few (script_state order tasks sc t) j in_row ready.permutes))
 
           one_more : (d : Entry) → Memᴰ d (take j sc.entries) ⊎ Memᴰ d (e ∷ []) → d.tick ≤ t
@@ -238,7 +234,7 @@ module _ (order : List ℕ) (tasks : List Task) (sc : Script) where
 
       -- a task with work left has the tick, or none has work left
       abbrev TickGoes : Type 0
-      TickGoes = ((p : ℕ) × (pick by seen ≡ some p) × (p < length order) × (1 ≤ oldest seen p)) ⊎ ((pick by seen ≡ none) × ((p : ℕ) → p < length order → oldest seen p ≡ 0))
+      TickGoes = ((p : ℕ) × (pick by seen ≡ Some p) × (p < length order) × (1 ≤ oldest seen p)) ⊎ ((pick by seen ≡ None) × ((p : ℕ) → p < length order → oldest seen p ≡ 0))
 
       tick_goes : TickGoes
       tick_goes = go (picked by seen)
@@ -249,8 +245,7 @@ module _ (order : List ℕ) (tasks : List Task) (sc : Script) where
           go (idle e is none_pending) = inr (is, λ p h. none_pending p (omega (arith, by_place_length order tasks)))
 
       -- the player picks the task that has the tick
-      pub picks : (picked_by order player).picked ≡ shown_task order (pick by (script_seen order tasks sc t))
-      unfolding picked_by
+      pub picks : (picked_by order player).picked ≡ numbered order (pick by (script_seen order tasks sc t))
       picks = pick_shows order tasks sc ready.permutes ready.few seen player at.shows (held_at t)
 
       shows_picked : Shows order tasks sc seen now
@@ -271,42 +266,25 @@ module _ (order : List ℕ) (tasks : List Task) (sc : Script) where
       unfolding shown
       tick_shown = tick_byte order tasks sc ready.permutes ready.few seen now shows_picked (held_at t) picks
 
-      -- the number of a task that has the tick is a task's
-      someone : (p : ℕ) → pick by seen ≡ some p → p < length order → now.picked < most_tasks
-      unfolding shown_task
-      someone p is h = omega (arith, picks ∙ ap (shown_task order) is, number_found order tasks ready.permutes p h, ready.few)
-
-      nobody : pick by seen ≡ none → now.picked ≡ most_tasks
-      unfolding shown_task
-      nobody is = picks ∙ ap (shown_task order) is
-
-      -- a number that is no task's is that of nobody
-      pub nobody_picked : most_tasks ≤ (picked_by order player).picked → (picked_by order player).picked ≡ most_tasks
-      nobody_picked h = go tick_goes
+      -- a task that has the tick is one of the set
+      pub picked_in : IfSome (picked_by order player).picked (λ i. i < most_tasks)
+      picked_in = go tick_goes
         where
-          go : TickGoes → now.picked ≡ most_tasks
-          go (inl (p, is, l, pend)) = let z : ⊥ = omega (arith, someone p is l) in absurd z
-          go (inr (is, none_pending)) = nobody is
-
-      -- a task's number, or the one behind the last
-      pub picked_in : (picked_by order player).picked ≤ most_tasks
-      picked_in = go (dec_le most_tasks now.picked)
-        where
-          go : Dec (most_tasks ≤ now.picked) → now.picked ≤ most_tasks
-          go (yes h) = omega (arith, nobody_picked h)
-          go (no h) = omega arith
+          go : TickGoes → IfSome now.picked (λ i. i < most_tasks)
+          go (inl (p, is, l, pend)) = rw (picks ∙ ap (numbered order) is) (omega (arith, number_found order tasks ready.permutes p l, ready.few))
+          go (inr (is, none_pending)) = rw (picks ∙ ap (numbered order) is) tt
 
       -- ---- the end
 
       -- all entries are released and no task has the tick: all jobs are done
-      pub all_are_done : j ≡ length sc.entries → (picked_by order player).picked ≡ most_tasks → all_done order tasks sc t ≡ true
+      pub all_are_done : j ≡ length sc.entries → (picked_by order player).picked ≡ None → all_done order tasks sc t ≡ true
       all_are_done last none_picked = go tick_goes
         where
           all : AllReleased sc.entries t
           all d m = at.released_by d (subst (λ l. Memᴰ d l) (sym (take_all j sc.entries (omega arith))) m)
 
           go : TickGoes → all_done order tasks sc t ≡ true
-          go (inl (p, is, l, pend)) = let z : ⊥ = omega (arith, someone p is l) in absurd z
+          go (inl (p, is, l, pend)) = let z : None ≡ Some (number_at order p) = sym none_picked ∙ picks ∙ ap (numbered order) is in let y : ⊥ = cc in absurd y
           go (inr (is, none_pending)) = (done_is order tasks sc t).1 (record { released = all; complete = λ p h. oldest_none _ (none_pending p h) })
 
       -- an entry is left, or a task has the tick: they are not
@@ -316,9 +294,9 @@ module _ (order : List ℕ) (tasks : List Task) (sc : Script) where
           (undone_is order tasks sc t).1
           (inl (e, member_at sc.entries j in_row, at.rest_after e (subst (Memᴰ e) (sym (drop-cons sc.entries j no_entry in_row)) (Memᴰ.head refl))))
 
-      pub not_all_done : (picked_by order player).picked < most_tasks → all_done order tasks sc t ≡ false
-      not_all_done is_picked = go tick_goes
+      pub not_all_done : (i : ℕ) → (picked_by order player).picked ≡ Some i → all_done order tasks sc t ≡ false
+      not_all_done i is_picked = go tick_goes
         where
           go : TickGoes → all_done order tasks sc t ≡ false
           go (inl (p, is, l, pend)) = (undone_is order tasks sc t).1 (inr (p, l, le_trans pend (oldest_at_most (seen.lanes p).jobs)))
-          go (inr (is, none_pending)) = let z : ⊥ = omega (arith, nobody is) in absurd z
+          go (inr (is, none_pending)) = let z : None ≡ Some i = sym (picks ∙ ap (numbered order) is) ∙ is_picked in let y : ⊥ = cc in absurd y

@@ -1,6 +1,6 @@
 -- The releases of a tick, entry by entry, go the way of the theory's, which sees all of them at once.
+use Rattle.std.specs.Prelude.{None, Option, Some}
 use mathlib.Core.List.{List, [], ◌∷◌, ◌++◌}
-use mathlib.Core.Option.{Option, none, some}
 use mathlib.Core.Path.{◌≡◌, refl, sym, ap, ◌∙◌}
 use Prim.Native.Nat.{ℕ, suc, ◌+◌, ◌≤◌, ◌<◌}
 use native.Mathlib.Decide.{ℕ_discrete}
@@ -24,8 +24,9 @@ use Rattle.plays.proofs.Ledgers.{entry_is}
 use Rattle.plays.proofs.ScriptLegal.{entries_in_order}
 use Rattle.plays.proofs.ScriptFacts.{member_at, NoneAt, none_yet, none_more, entry_in_set, not_yet, now_there, others_stay}
 use Rattle.plays.proofs.ScriptLanes.{task_of_number, seen_by_release, state_by_serve}
-use Rattle.player.specs.State.{released}
-use Rattle.player.specs.Shows.{Slot, ShowsJobs, Shows, locks_of}
+use Rattle.player.specs.State.{no_job, released}
+use Rattle.player.specs.declared.state.Job.{Job as Kept}
+use Rattle.player.specs.Shows.{SlotOf, ShowsJobs, Shows, locks_of}
 use Rattle.player.specs.declared.state.Player.{Player}
 use Rattle.player.proofs.Slots.{slot_released}
 use Rattle.player.proofs.Soonest.{sooner_released}
@@ -48,16 +49,16 @@ module _ (order : List ℕ) (tasks : List Task) (sc : Script) where
   abbrev pub Turning : ℕ → State → ℕ → List ℕ → Type 0
   Turning t s j frames = (i : ℕ) → i < length tasks → get_or frames i 0 ≡ (lane_with t s j i).next
 
-  nothing_released : {o : Option Entry} (t i : ℕ) (l : Lane) → o ≡ none → release_lane (task_at tasks i) t (work_of o) l ≡ l
+  nothing_released : {o : Option Entry} (t i : ℕ) (l : Lane) → o ≡ None → release_lane (task_at tasks i) t (work_of o) l ≡ l
   unfolding release_lane work_of
   nothing_released t i l e = rw e
 
-  one_released : {o : Option Entry} {e : Entry} (t i : ℕ) (l : Lane) → o ≡ some e
+  one_released : {o : Option Entry} {e : Entry} (t i : ℕ) (l : Lane) → o ≡ Some e
       → (release_lane (task_at tasks i) t (work_of o) l).jobs ≡ l.jobs ++ (job t l.next e.work ∷ [])
   unfolding release_lane work_of
   one_released t i l e = rw e
 
-  then_next : {o : Option Entry} {e : Entry} (t i : ℕ) (l : Lane) → o ≡ some e → (release_lane (task_at tasks i) t (work_of o) l).next ≡ next_frame (task_at tasks i) l.next
+  then_next : {o : Option Entry} {e : Entry} (t i : ℕ) (l : Lane) → o ≡ Some e → (release_lane (task_at tasks i) t (work_of o) l).next ≡ next_frame (task_at tasks i) l.next
   unfolding release_lane work_of
   then_next t i l e = rw e
 
@@ -69,9 +70,7 @@ module _ (order : List ℕ) (tasks : List Task) (sc : Script) where
         coming = shows.coming;
         holder = shows.holder;
         no_sooner = shows.no_sooner;
-        left_room = shows.left_room;
-        due_room = shows.due_room;
-        lock_room = shows.lock_room;
+        room = shows.room;
       }
 
   pub turning_none : (t j : ℕ) (s : State) (frames : List ℕ) → NoneAt t (take j sc.entries)
@@ -79,7 +78,7 @@ module _ (order : List ℕ) (tasks : List Task) (sc : Script) where
   turning_none t j s frames none_at kept i h =
       rw (nothing_released t i (s.lanes (place_of order i)) (none_yet sc.entries j i t none_at)) (kept i h)
 
-  module _ (kept : first_refusal (item_checks tasks sc) ≡ none) (few : length tasks ≤ most_tasks) (s : State) (j : ℕ) (in_row : j < length sc.entries) where
+  module _ (kept : first_refusal (item_checks tasks sc) ≡ None) (few : length tasks ≤ most_tasks) (s : State) (j : ℕ) (in_row : j < length sc.entries) where
     abbrev e : Entry
     e = get_or sc.entries j no_entry
 
@@ -87,7 +86,7 @@ module _ (order : List ℕ) (tasks : List Task) (sc : Script) where
     lane = s.lanes (place_of order e.task)
 
     -- it is the entry of its task at its tick
-    its_own : entry_of sc.entries e.task e.tick ≡ some e
+    its_own : entry_of sc.entries e.task e.tick ≡ Some e
     its_own = entry_is 0 sc.entries (entries_in_order tasks sc kept) e (member_at sc.entries j in_row)
 
     locks_it : e.lock ≡ locks_of sc e.task e.tick
@@ -96,7 +95,7 @@ module _ (order : List ℕ) (tasks : List Task) (sc : Script) where
 
     -- its task is released at its tick with its work
     pub release_there : Permutes (length tasks) order
-        → released_at order sc (get_or sc.entries j no_entry).tick (place_of order (get_or sc.entries j no_entry).task) ≡ some (get_or sc.entries j no_entry).work
+        → released_at order sc (get_or sc.entries j no_entry).tick (place_of order (get_or sc.entries j no_entry).task) ≡ Some (get_or sc.entries j no_entry).work
     unfolding work_of
     release_there permutes =
         released_of order sc e.tick (place_of order e.task) (number_back (length tasks) order permutes e.task (entry_in_set tasks sc kept j in_row))
@@ -126,15 +125,18 @@ module _ (order : List ℕ) (tasks : List Task) (sc : Script) where
       abbrev then : Player
       then = released player e deadline
 
-      own_slot : Slot tasks sc then e.task (lane_with e.tick s (suc j) e.task).jobs
+      abbrev new : Kept
+      new = record { left = e.work; due = e.tick + deadline; lock = e.lock }
+
+      own_slot : SlotOf tasks sc then e.task (lane_with e.tick s (suc j) e.task).jobs
       own_slot =
           let i_in : e.task < most_tasks = omega (arith, entry_in_set tasks sc kept j in_row) in
-          rw (one_released e.tick e.task lane (now_there tasks sc kept j in_row), get_or-set_same player.left e.task e.work 0 (omega (arith, before.left_room)), get_or-set_same player.due e.task (e.tick + deadline) 0 (omega (arith, before.due_room)), get_or-set_same player.lock e.task e.lock 0 (omega (arith, before.lock_room)), its_deadline)
+          rw (one_released e.tick e.task lane (now_there tasks sc kept j in_row), get_or-set_same player.jobs e.task new no_job (omega (arith, before.room)), its_deadline)
           (slot_released lane.jobs e.tick lane.next e.work e.lock alone locks_it)
 
-      other_slot : (i : ℕ) → i < length tasks → ¬ (i ≡ e.task) → Slot tasks sc then i (lane_with e.tick s (suc j) i).jobs
+      other_slot : (i : ℕ) → i < length tasks → ¬ (i ≡ e.task) → SlotOf tasks sc then i (lane_with e.tick s (suc j) i).jobs
       other_slot i h ne =
-          rw (others_stay tasks sc kept j in_row i e.tick (λ p _. ne (sym p)), get_or-set_other player.left e.task i e.work 0 ne, get_or-set_other player.due e.task i (e.tick + deadline) 0 ne, get_or-set_other player.lock e.task i e.lock 0 ne)
+          rw (others_stay tasks sc kept j in_row i e.tick (λ p _. ne (sym p)), get_or-set_other player.jobs e.task i new no_job ne)
           (before.slots i h)
 
       -- a release of the player goes the way of the theory's
@@ -144,13 +146,11 @@ module _ (order : List ℕ) (tasks : List Task) (sc : Script) where
             slots = λ i h. go i h (ℕ_discrete i e.task);
             coming = before.coming;
             holder = before.holder;
-            no_sooner = sooner_released player.soonest (length tasks) player.left player.due before.no_sooner e.task e.work (e.tick + deadline) (omega (arith, entry_in_set tasks sc kept j in_row, before.due_room));
-            left_room = length-set player.left e.task e.work ∙ before.left_room;
-            due_room = length-set player.due e.task (e.tick + deadline) ∙ before.due_room;
-            lock_room = length-set player.lock e.task e.lock ∙ before.lock_room;
+            no_sooner = sooner_released player.soonest (length tasks) player.jobs before.no_sooner e.task new (omega (arith, entry_in_set tasks sc kept j in_row, before.room));
+            room = length-set player.jobs e.task new ∙ before.room;
           }
         where
-          go : (i : ℕ) → i < length tasks → Dec (i ≡ e.task) → Slot tasks sc then i (lane_with e.tick s (suc j) i).jobs
+          go : (i : ℕ) → i < length tasks → Dec (i ≡ e.task) → SlotOf tasks sc then i (lane_with e.tick s (suc j) i).jobs
           go i h (yes same) = rw same own_slot
           go i h (no ne) = other_slot i h ne
 
@@ -170,9 +170,7 @@ module _ (order : List ℕ) (tasks : List Task) (sc : Script) where
           coming = seeing.coming;
           holder = seeing.holder;
           no_sooner = seeing.no_sooner;
-          left_room = seeing.left_room;
-          due_room = seeing.due_room;
-          lock_room = seeing.lock_room;
+          room = seeing.room;
         }
 
     -- a tick leaves the frames of the next jobs

@@ -1,114 +1,145 @@
--- The soonest moment by which a pending job is due: how it is found, that no such moment comes before it as a play goes on, and that no task is late before it.
-use mathlib.Core.Bool.{false}
-use mathlib.Core.List.{List}
-use mathlib.Core.Path.{◌≡◌, refl, sym, ap, ◌∙◌}
-use Prim.Native.Nat.{ℕ, zero, suc, pred, ◌+◌, ◌≤◌, ◌<◌, min}
-use native.Mathlib.Decide.{ℕ_discrete, dec_lt}
-use native.Mathlib.Nat.{le_trans, not-suc-le-zero, min-le_left, min-le_right}
-use native.Mathlib.Numerals.{add-one}
+-- The soonest moment by which a pending job is due: that it is, that no such moment comes before it as a play goes on, and that no task is late before it.
+use Rattle.std.specs.Prelude.{Bool, false, None, fold, position}
+use Rattle.std.specs.List.{position_or_len}
+use Rattle.std.proofs.Common.{length-take-le}
+use Rattle.std.proofs.lemmas.List.{get_or_past}
+use Rattle.std.proofs.lemmas.List.Sums.{position_or_len_is}
+use mathlib.Core.List.{List, [], ◌∷◌}
+use mathlib.Core.Path.{◌≡◌, sym, ap, ◌∙◌}
+use Prim.Native.Nat.{ℕ, zero, suc, ◌≤◌, ◌<◌, min}
+use native.Mathlib.Decide.{ℕ_discrete, dec_le, dec_lt}
+use native.Mathlib.Nat.{le_refl, le_trans, not-suc-le-zero, le_of_suc-le-suc, min-le_left, min-le_right}
 use native.Mathlib.Omega.{arith}
-use borrow.Author.Tests.{lt-ltb, le-ltb, ne_eqb}
-use lib.ListN.{length, get_or, set}
-use lib.Seq.{get_or-set_same, get_or-set_other}
-use Rattle.sheet.specs.Constants.{most_tasks}
-use Rattle.player.specs.State.{never, due_with, soonest_due, late, first_late, misser_in, looking_ahead}
+use borrow.Author.Tests.{lt-ltb, le-ltb, le-leb, lt-leb, ne_eqb}
+use lib.ListN.{length, get_or, take, set}
+use lib.Seq.{get_or-set_same, get_or-set_other, get_or-take, take_all}
+use Rattle.theory.specs.First.{first}
+use Rattle.theory.proofs.Search.{IsFirst, Answer, answer, nothing, it_is, first_some, first_none, first_is, first_is_none, first_same}
+use Rattle.player.specs.State.{no_job, never, due_with, soonest_due, late, misser_in, looking_ahead}
 use Rattle.player.specs.Shows.{NoSooner}
+use Rattle.player.specs.declared.state.Job.{Job}
 use Rattle.player.specs.declared.state.Player.{Player}
-use Rattle.player.proofs.Picking.{no_work, some_work, late_nowhere}
 
--- ---- how it is found
+-- ---- that it is
 
-module _ (left due : ℕ) where
-  pub due_never : left ≡ 0 → never ≡ due_with left due
-  unfolding due_with
-  due_never e = rw e
+due_then : (job : Job) → 1 ≤ job.left → due_with job ≡ job.due
+due_then job h = rw (ne_eqb job.left 0 (λ e. absurd (omega arith)))
 
-  pub due_then : ¬ (left ≡ 0) → due ≡ due_with left due
-  unfolding due_with
-  due_then ne = go left ne
-    where
-      go : (n : ℕ) → ¬ (n ≡ 0) → due ≡ due_with n due
-      go zero ne = absurd (ne refl)
-      go (suc n) ne = refl
+-- the soonest of a moment and those of a row of jobs
+abbrev soonest_from : ℕ → List Job → ℕ
+soonest_from m jobs = fold (λ soonest job. min soonest (due_with job)) m jobs
 
-module _ (left due : List ℕ) where
-  pub soonest_none : never ≡ soonest_due left due 0
-  unfolding soonest_due
-  soonest_none = refl
+from_least : (m : ℕ) (jobs : List Job) → soonest_from m jobs ≤ m
+from_least m [] = le_refl m
+from_least m (j ∷ js) = le_trans (from_least (min m (due_with j)) js) (min-le_left m (due_with j))
 
-  pub soonest_more : (n : ℕ) → min (soonest_due left due n) (due_with (get_or left n 0) (get_or due n 0)) ≡ soonest_due left due (n + 1)
-  unfolding soonest_due
-  soonest_more n = rw (add-one n) refl
+least_from : (m : ℕ) (jobs : List Job) → NoSooner (soonest_from m jobs) (length jobs) jobs
+least_from m [] i h l = absurd (not-suc-le-zero h)
+least_from m (j ∷ js) zero h l = le_trans (from_least (min m (due_with j)) js) (omega (arith, min-le_right m (due_with j), due_then j l))
+least_from m (j ∷ js) (suc i) h l = least_from (min m (due_with j)) js i (le_of_suc-le-suc h) l
 
-  pub soonest_least : (n : ℕ) → NoSooner (soonest_due left due n) n left due
-  unfolding soonest_due
-  soonest_least zero i h l = absurd (not-suc-le-zero h)
-  soonest_least (suc n) i h l = go (ℕ_discrete i n) (soonest_least n i)
-    where
-      go : Dec (i ≡ n) → (i < n → 1 ≤ get_or left i 0 → soonest_due left due n ≤ get_or due i 0)
-          → min (soonest_due left due n) (due_with (get_or left n 0) (get_or due n 0)) ≤ get_or due i 0
-      go (yes e) before =
-          le_trans (min-le_right (soonest_due left due n) (due_with (get_or left n 0) (get_or due n 0)))
-          (rw e (omega (arith, due_then (get_or left n 0) (get_or due n 0) (λ z. let z : ⊥ = omega (arith, ap (λ x. get_or left x 0) e) in absurd z))))
-      go (no ne) before = le_trans (min-le_left (soonest_due left due n) (due_with (get_or left n 0) (get_or due n 0))) (before (omega arith) l)
+pub soonest_least : (jobs : List Job) → NoSooner (soonest_due jobs) (length jobs) jobs
+soonest_least jobs = least_from never jobs
 
 -- ---- no such moment comes before it
 
-module _ (soonest n : ℕ) (left due : List ℕ) (no_sooner : NoSooner soonest n left due) where
+module _ (soonest n : ℕ) (jobs : List Job) (no_sooner : NoSooner soonest n jobs) where
   -- with a job released
-  pub sooner_released : (j work its_due : ℕ) → j < length due → NoSooner (min soonest its_due) n (set left j work) (set due j its_due)
-  sooner_released j work its_due room i h l = go (ℕ_discrete i j)
+  pub sooner_released : (j : ℕ) (new : Job) → j < length jobs → NoSooner (min soonest new.due) n (set jobs j new)
+  sooner_released j new room i h l = go (ℕ_discrete i j)
     where
-      go : Dec (i ≡ j) → min soonest its_due ≤ get_or (set due j its_due) i 0
-      go (yes e) = rw (e, get_or-set_same due j its_due 0 room) (min-le_right soonest its_due)
+      go : Dec (i ≡ j) → min soonest new.due ≤ (get_or (set jobs j new) i no_job).due
+      go (yes e) = rw (e, get_or-set_same jobs j new no_job room) (min-le_right soonest new.due)
       go (no ne) =
-          rw (get_or-set_other due j i its_due 0 ne)
-          (le_trans (min-le_left soonest its_due) (no_sooner i h (rw (get_or-set_other left j i work 0 ne) at l)))
+          rw (get_or-set_other jobs j i new no_job ne)
+          (le_trans (min-le_left soonest new.due) (no_sooner i h (rw (get_or-set_other jobs j i new no_job ne) at l)))
 
   -- with a tick given
-  pub sooner_served : (j : ℕ) → j < length left → NoSooner soonest n (set left j (pred (get_or left j 0))) due
-  sooner_served j room i h l = no_sooner i h (go (ℕ_discrete i j))
+  pub sooner_served : (j : ℕ) (new : Job) → j < length jobs → new.left ≤ (get_or jobs j no_job).left → new.due ≡ (get_or jobs j no_job).due
+      → NoSooner soonest n (set jobs j new)
+  sooner_served j new room less same i h l = go (ℕ_discrete i j)
     where
-      go : Dec (i ≡ j) → 1 ≤ get_or left i 0
-      go (yes e) = rw e (omega (arith, rw (e, get_or-set_same left j (pred (get_or left j 0)) 0 room) at l))
-      go (no ne) = rw (get_or-set_other left j i (pred (get_or left j 0)) 0 ne) at l
+      go : Dec (i ≡ j) → soonest ≤ (get_or (set jobs j new) i no_job).due
+      go (yes e) =
+          let k : 1 ≤ new.left = rw (e, get_or-set_same jobs j new no_job room) at l in
+          rw (e, get_or-set_same jobs j new no_job room, same) (no_sooner j (rw e at h) (omega arith))
+      go (no ne) = rw (get_or-set_other jobs j i new no_job ne) (no_sooner i h (rw (get_or-set_other jobs j i new no_job ne) at l))
 
 -- ---- looking ahead
 
 module _ (s : Player) (t : ℕ) where
-  pub not_reached : t < s.soonest → s ≡ looking_ahead s t
-  unfolding looking_ahead
-  not_reached h = rw (lt-ltb t s.soonest h)
+  pub not_reached : t < s.soonest → looking_ahead s t ≡ s
+  not_reached h = rw (lt-leb s.soonest t h)
 
-  pub reached : (soonest : ℕ) → s.soonest ≤ t → soonest ≡ soonest_due s.left s.due most_tasks
-      → ◌≡◌ {A = Player} (record { left = s.left; due = s.due; lock = s.lock; soonest = soonest; picked = s.picked; to_come = s.to_come }) (looking_ahead s t)
-  unfolding looking_ahead
-  reached soonest h e = rw (le-ltb t s.soonest h, e)
+  pub reached : s.soonest ≤ t → looking_ahead s t ≡ record { jobs = s.jobs; soonest = soonest_due s.jobs; picked = s.picked; to_come = s.to_come }
+  reached h = rw (le-leb s.soonest t h)
 
 -- ---- no task is late before it
 
-module _ (s : Player) (n t : ℕ) where
-  pub before_soonest : t < s.soonest → most_tasks ≡ misser_in s n t
-  unfolding misser_in
-  before_soonest h = rw (lt-ltb t s.soonest h)
+module _ (test : Job → Bool) (jobs : List Job) where
+  abbrev passes_at : ℕ → Bool
+  passes_at i = test (get_or jobs i no_job)
 
-  pub from_soonest : s.soonest ≤ t → first_late s.left s.due n t ≡ misser_in s n t
-  unfolding misser_in
-  from_soonest h = rw (le-ltb t s.soonest h)
+  -- the first place that passes is the first number whose job passes
+  position_first : position test jobs ≡ first 0 (length jobs) (λ i. test (get_or jobs i no_job))
+  position_first = go (answer (first 0 (length jobs) passes_at))
+    where
+      go : Answer (first 0 (length jobs) passes_at) → position test jobs ≡ first 0 (length jobs) passes_at
+      go (nothing e) =
+          let none : position_or_len test jobs ≡ length jobs =
+          position_or_len_is test jobs (length jobs) no_job (le_refl _) (λ k h. first_none 0 (length jobs) passes_at e k (omega arith) (omega arith)) (λ h. absurd (omega arith)) in
+          rw (none, le-ltb (length jobs) (length jobs) (le_refl _)) (sym e)
+      go (it_is i e) =
+          let is : IsFirst 0 (length jobs) passes_at i = first_some 0 (length jobs) passes_at e in
+          let here : position_or_len test jobs ≡ i =
+          position_or_len_is test jobs i no_job (omega (arith, is.before)) (λ k h. is.earlier k (omega arith) h) (λ _. is.passes) in
+          rw (here, lt-ltb i (length jobs) (omega (arith, is.before))) (sym e)
+
+module _ (s : Player) (n t : ℕ) where
+  abbrev late_at : ℕ → Bool
+  late_at i = late (get_or s.jobs i no_job) t
+
+  -- behind the last slot no task is late
+  late_past : (u : ℕ) → length s.jobs ≤ u → late_at u ≡ false
+  late_past u h = ap (λ j. late j t) (get_or_past s.jobs u no_job h)
+
+  first_past : length s.jobs ≤ n → first 0 (length s.jobs) late_at ≡ first 0 n late_at
+  first_past past = go (answer (first 0 (length s.jobs) late_at))
+    where
+      none_late : first 0 (length s.jobs) late_at ≡ None → (u : ℕ) → Dec (u < length s.jobs) → late_at u ≡ false
+      none_late e u (yes h) = first_none 0 (length s.jobs) late_at e u (omega arith) (omega arith)
+      none_late e u (no h) = late_past u (omega arith)
+
+      go : Answer (first 0 (length s.jobs) late_at) → first 0 (length s.jobs) late_at ≡ first 0 n late_at
+      go (nothing e) = e ∙ sym (first_is_none 0 n late_at (λ u _ h. none_late e u (dec_lt u (length s.jobs))))
+      go (it_is i e) =
+          let is : IsFirst 0 (length s.jobs) late_at i = first_some 0 (length s.jobs) late_at e in
+          let here : IsFirst 0 n late_at i = record { from = is.from; before = omega (arith, is.before); passes = is.passes; earlier = is.earlier } in
+          e ∙ sym (first_is 0 n late_at here)
+
+  -- the tasks looked at are the first n
+  first_taken : Dec (n ≤ length s.jobs) → first 0 (length (take n s.jobs)) (λ i. late (get_or (take n s.jobs) i no_job) t) ≡ first 0 n late_at
+  first_taken (yes room) =
+      rw (length-take-le n s.jobs room)
+      (first_same 0 n (λ i. late (get_or (take n s.jobs) i no_job) t) late_at (λ u h. ap (λ j. late j t) (get_or-take n s.jobs u no_job (omega arith))))
+  first_taken (no past) = rw (take_all n s.jobs (omega arith)) (first_past (omega arith))
+
+  from_soonest : s.soonest ≤ t → misser_in s n t ≡ first 0 n late_at
+  from_soonest h = rw (le-ltb t s.soonest h) (position_first (λ job. late job t) (take n s.jobs) ∙ first_taken (dec_le n (length s.jobs)))
 
   -- before the soonest moment there is nothing to find
-  pub misser_is : NoSooner s.soonest n s.left s.due → misser_in s n t ≡ first_late s.left s.due n t
+  pub misser_is : NoSooner s.soonest n s.jobs → misser_in s n t ≡ first 0 n late_at
   misser_is no_sooner = go (dec_lt t s.soonest)
     where
-      not_late : t < s.soonest → (u : ℕ) → u < n → late (get_or s.left u 0) (get_or s.due u 0) t ≡ false
-      not_late h u l = cases (ℕ_discrete (get_or s.left u 0) 0)
+      not_late : t < s.soonest → (u : ℕ) → u < n → late_at u ≡ false
+      not_late h u l = cases (ℕ_discrete (get_or s.jobs u no_job).left 0)
         where
-          cases : Dec (get_or s.left u 0 ≡ 0) → late (get_or s.left u 0) (get_or s.due u 0) t ≡ false
-          cases (yes e) = sym (no_work (get_or s.left u 0) (get_or s.due u 0) t e)
+          cases : Dec ((get_or s.jobs u no_job).left ≡ 0) → late_at u ≡ false
+          cases (yes e) = rw (le-ltb 0 (get_or s.jobs u no_job).left (omega arith))
           cases (no ne) =
-              sym (some_work (get_or s.left u 0) (get_or s.due u 0) t ne)
-              ∙ ne_eqb (get_or s.due u 0) t (λ e. let z : ⊥ = omega (arith, no_sooner u l (omega arith)) in absurd z)
+              let later = no_sooner u l (omega arith) in
+              rw (lt-ltb 0 (get_or s.jobs u no_job).left (omega arith), ne_eqb (get_or s.jobs u no_job).due t (λ e. absurd (omega arith)))
 
-      go : Dec (t < s.soonest) → misser_in s n t ≡ first_late s.left s.due n t
-      go (yes h) = sym (before_soonest h) ∙ late_nowhere s.left s.due n t (not_late h)
-      go (no h) = sym (from_soonest (omega arith))
+      go : Dec (t < s.soonest) → misser_in s n t ≡ first 0 n late_at
+      go (yes h) = rw (lt-ltb t s.soonest h) (sym (first_is_none 0 n late_at (λ u _ l. not_late h u (omega arith))))
+      go (no h) = from_soonest (omega arith)

@@ -1,78 +1,68 @@
 -- The cast of a play that is not turned away, and what the entries cite.
+use Rattle.std.specs.Prelude.{Err, Ok, Result, IsErrAnd}
+use Rattle.std.proofs.Math.ListN.{get_or-map}
+use Rattle.std.proofs.lemmas.List.{ext_get_or}
 use mathlib.Core.List.{List, map}
-use mathlib.Core.Path.{◌≡◌, refl, ap, ◌∙◌}
-use Prim.Native.Nat.{ℕ, ◌≤◌, ◌<◌}
-use borrow.Author.Tests.{lt-ltb, le-ltb}
-use Rattle.sheet.specs.Constants.{most_tasks}
+use mathlib.Core.Path.{◌≡◌, refl, sym, ap, ◌∙◌}
+use Prim.Native.Nat.{ℕ, ◌<◌}
+use native.Mathlib.Omega.{arith}
+use lib.ListN.{length, get_or, length-map}
 use Rattle.sheet.specs.Tasks.{task_in, records_of, set_with}
 use Rattle.sheet.specs.Admission.{decided}
 use Rattle.sheet.specs.Reading.{sheet_checks, policy_of, tasks_of}
 use Rattle.sheet.specs.declared.TaskSet.{TaskSet}
 use Rattle.sheet.specs.declared.Refusal.{Refusal}
-use Rattle.sheet.specs.declared.Answer.{Answer}
-use Rattle.sheet.specs.declared.Answer.TheVariants.{Admitted, Refused}
-use Rattle.admission.specs.Judged.{judged}
 use Rattle.admission.specs.declared.Judged.{Judged}
-use Rattle.admission.proofs.Answers.{judged_tells}
+use Rattle.admission.proofs.Answers.{judged_admits, judged_refuses}
 use Rattle.reader.specs.Sheets.{sheet_judged}
-use Rattle.order.specs.Ordered.{ordered}
+use Rattle.order.specs.Ordered.{ordered, no_place}
+use Rattle.order.specs.declared.Place.{Place}
 use Rattle.order.specs.declared.Ordered.{Ordered}
 use Rattle.scripts.specs.Reading.{entry_count}
 use Rattle.scripts.specs.Judging.{judgement}
-use Rattle.scripts.specs.declared.Judgement.TheVariants.{Sound, Malformed, Unsound}
-use Rattle.player.specs.Inside.Staging.{cast_for, not_staged, staged_by, set_staged, answer_staged, sheet_staged, said}
-use Rattle.player.specs.declared.PlayRefusal.TheVariants.{Base, Malformed as ill_made, Item}
-use Rattle.player.specs.declared.Readiness.TheVariants.{Playable}
-use Rattle.player.specs.declared.Staged.{Staged}
+use Rattle.scripts.specs.declared.Flaw.{Flaw}
+use Rattle.player.specs.Inside.Staging.{cast_for, refusal_by, staged_by, set_staged, answer_staged, sheet_staged}
+use Rattle.player.specs.declared.PlayRefusal.TheVariants.{Base}
 use Rattle.player.specs.declared.course.Cast.{Cast}
-use Rattle.player.specs.declared.Played.TheVariants.{Missed, Done}
-use Rattle.player.specs.declared.course.End.{End}
-
-module _ (end : End) where
-  pub said_missed : end.task < most_tasks → Missed end.tick end.task ≡ said end
-  unfolding said
-  said_missed h = rw (lt-ltb end.task most_tasks h)
-
-  pub said_done : most_tasks ≤ end.task → Done end.tick ≡ said end
-  unfolding said
-  said_done h = rw (le-ltb end.task most_tasks h)
 
 -- ---- the cast
 
-pub cast_is : (set : TaskSet) (bytes : List ℕ) (o : Ordered) (entries : ℕ) → o ≡ ordered set → entries ≡ entry_count o.count bytes
-    → ◌≡◌ {A = Cast} (record { count = o.count; entries = entries; order = o.numbers; tasks = set.tasks }) (cast_for set bytes)
+-- the numbers of places, one by one
+pub numbers_mapped : (places : List Place) (numbers : List ℕ) → length numbers ≡ length places → ((i : ℕ) → i < length places → get_or numbers i 0 ≡ (get_or places i no_place).number)
+    → numbers ≡ map (λ (p : Place). p.number) places
+numbers_mapped places numbers long each =
+    ext_get_or 0 numbers (map (λ (p : Place). p.number) places) (long ∙ sym (length-map places (λ (p : Place). p.number)))
+    (λ i h. each i (omega arith) ∙ sym (get_or-map (λ (p : Place). p.number) places i no_place))
+
+pub cast_is : (set : TaskSet) (bytes : List ℕ) (o : Ordered) (entries : ℕ) (order : List ℕ) → o ≡ ordered set → entries ≡ entry_count o.count bytes
+    → order ≡ map (λ (p : Place). p.number) o.places → ◌≡◌ {A = Cast} (record { count = o.count; entries = entries; order = order; tasks = set.tasks }) (cast_for set bytes)
 unfolding cast_for ordered
-cast_is set bytes o entries eo ee = rw (ee, eo) refl
+cast_is set bytes o entries order eo ee en = rw (en, ee, eo) refl
 
--- ---- readiness
+-- ---- the stage
 
-module _ (set : TaskSet) (bytes : List ℕ) where
-  pub staged_malformed : judgement (map task_in (records_of set)) bytes ≡ Malformed → not_staged ill_made ≡ set_staged set bytes
-  unfolding set_staged staged_by
-  staged_malformed e = rw e
+-- what a `?` returns
+pub told_err : {A E : Type 0} (r : Result A E) {why : E} → IsErrAnd r (λ told. told ≡ why) → r ≡ Err why
+told_err (Ok a) h = elim h [ ]
+told_err (Err e) h = ap Err h
 
-  pub staged_unsound : (j : ℕ) → judgement (map task_in (records_of set)) bytes ≡ Unsound j → not_staged (Item j) ≡ set_staged set bytes
-  unfolding set_staged staged_by
-  staged_unsound j e = rw e
+-- a sheet that is refused
+pub sheet_refused : (sheet bytes : List ℕ) (why : Refusal) → sheet_judged sheet ≡ Err why → Err (Base why) ≡ sheet_staged sheet bytes
+unfolding sheet_staged answer_staged sheet_judged
+sheet_refused sheet bytes why e = rw (judged_refuses (decided (sheet_checks sheet)) (set_with (policy_of sheet) (tasks_of sheet)) why e) refl
 
-  pub staged_sound : judgement (map task_in (records_of set)) bytes ≡ Sound → ◌≡◌ {A = Staged} (record { readiness = Playable; cast = cast_for set bytes }) (set_staged set bytes)
-  unfolding set_staged staged_by
-  staged_sound e = rw e
+-- one that is admitted, by how the script is judged
+module _ (sheet bytes : List ℕ) (j : Judged) (e : sheet_judged sheet ≡ Ok j) where
+  staged_so : staged_by (judgement (map task_in (records_of j.set)) bytes) j.set bytes ≡ sheet_staged sheet bytes
+  unfolding sheet_staged answer_staged set_staged sheet_judged
+  staged_so =
+      let (a, is) = judged_admits (decided (sheet_checks sheet)) (set_with (policy_of sheet) (tasks_of sheet)) j e in
+      rw (a, is) refl
 
-judged_set : (a : Answer) (s : TaskSet) → a ≡ Admitted → (judged a s).set ≡ s
-unfolding judged
-judged_set a s e = rw e
+  pub script_flawed : (flaw : Flaw) → judgement (map task_in (records_of j.set)) bytes ≡ Err flaw → Err (refusal_by flaw) ≡ sheet_staged sheet bytes
+  unfolding staged_by
+  script_flawed flaw f = rw f at staged_so
 
--- a sheet that is refused, and one that is admitted
-module _ (sheet bytes : List ℕ) (j : Judged) (is : j ≡ sheet_judged sheet) where
-  judged_is : sheet_judged sheet ≡ judged (decided (sheet_checks sheet)) (set_with (policy_of sheet) (tasks_of sheet))
-  unfolding sheet_judged
-  judged_is = refl
-
-  pub sheet_refused : (why : Refusal) → j.answer ≡ Refused why → not_staged (Base why) ≡ sheet_staged sheet bytes
-  unfolding sheet_staged answer_staged
-  sheet_refused why e = rw (judged_tells j _ _ _ (is ∙ judged_is) e)
-
-  pub sheet_admitted : j.answer ≡ Admitted → set_staged j.set bytes ≡ sheet_staged sheet bytes
-  unfolding sheet_staged answer_staged
-  sheet_admitted e = let d = judged_tells j _ _ _ (is ∙ judged_is) e in rw d (ap (λ t. set_staged t bytes) (ap (λ x. x.set) (is ∙ judged_is) ∙ judged_set _ _ d))
+  pub script_sound : judgement (map task_in (records_of j.set)) bytes ≡ Ok tt → Ok (cast_for j.set bytes) ≡ sheet_staged sheet bytes
+  unfolding staged_by
+  script_sound f = rw f at staged_so

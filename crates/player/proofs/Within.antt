@@ -1,7 +1,7 @@
 -- The numbers that a play and a trace answer are small: moments up to twice the greatest time, tasks of a set, items of a script.
+use Rattle.std.specs.Prelude.{None, Option, Some, Err, Ok, Result}
 use mathlib.Core.List.{List, ◌∷◌}
 use mathlib.Core.Logic.{◌⊎◌, inl, inr}
-use mathlib.Core.Option.{Option, none, some}
 use mathlib.Core.Path.{◌≡◌, refl, subst, ap, ◌∙◌}
 use Prim.Native.Nat.{ℕ, ◌+◌, ◌*◌, ◌^◌, ◌≤◌, ◌<◌}
 use native.Mathlib.Omega.{arith}
@@ -26,7 +26,7 @@ use Rattle.player.specs.Answers.{order_in, script_for, play_checks, ended, stops
 use Rattle.player.specs.declared.PlayRefusal.{PlayRefusal}
 use Rattle.player.specs.declared.PlayRefusal.TheVariants.{Base, Malformed as ill_made, Item}
 use Rattle.player.specs.declared.Played.{Played}
-use Rattle.player.specs.declared.Played.TheVariants.{Missed, Done, TurnedAway}
+use Rattle.player.specs.declared.Played.TheVariants.{Missed, Done}
 use Rattle.player.proofs.Turned.{few_tasks, Told, by_sheet, by_form, by_item, told}
 use Rattle.player.proofs.Ways.{Playing, is_playing, is_ready, played_turned, played_ends, Traced, not_played, no_room, is_traced, trace_way}
 
@@ -39,21 +39,21 @@ item_in order tasks sc j (broken_entry xs e ys split at frames before bad) =
 module _ (sheet bytes : List ℕ) where
   -- the numbers of a refusal: those of the sheet's own are the sheet's, 12 is for want of room
   pub data RefusalWithin : PlayRefusal → Type 0 where
-    own_within : (why : Refusal) → (first_refusal (sheet_checks sheet) ≡ some why) ⊎ (why ≡ Room) → RefusalWithin (Base why)
+    own_within : (why : Refusal) → (first_refusal (sheet_checks sheet) ≡ Some why) ⊎ (why ≡ Room) → RefusalWithin (Base why)
     script_within : RefusalWithin ill_made
     item_within : (j : ℕ) → j < 2 ^ 25 → RefusalWithin (Item j)
 
   -- the numbers of an answer
-  pub data Within : Played → Type 0 where
-    missed_within : (t i : ℕ) → t ≤ 2 * greatest_time → i < most_tasks → Within (Missed t i)
-    done_within : (t : ℕ) → t ≤ 2 * greatest_time → Within (Done t)
-    turned_within : (r : PlayRefusal) → RefusalWithin r → Within (TurnedAway r)
+  pub data Within : Result Played PlayRefusal → Type 0 where
+    missed_within : (t i : ℕ) → t ≤ 2 * greatest_time → i < most_tasks → Within (Ok (Missed t i))
+    done_within : (t : ℕ) → t ≤ 2 * greatest_time → Within (Ok (Done t))
+    turned_within : (r : PlayRefusal) → RefusalWithin r → Within (Err r)
 
-  refusal_within : {r : PlayRefusal} → first_refusal (play_checks sheet bytes) ≡ some r → RefusalWithin r
+  refusal_within : {r : PlayRefusal} → first_refusal (play_checks sheet bytes) ≡ Some r → RefusalWithin r
   unfolding script_for
   refusal_within {r} e = go r (subst (Told sheet bytes) e (told sheet bytes))
     where
-      go : (q : PlayRefusal) → Told sheet bytes (some q) → RefusalWithin q
+      go : (q : PlayRefusal) → Told sheet bytes (Some q) → RefusalWithin q
       go _ (by_sheet why s) = own_within why (inl s)
       go _ (by_form s w) = script_within
       go _ (by_item j s w f) =
@@ -61,7 +61,7 @@ module _ (sheet bytes : List ℕ) where
           let it_is = item_in _ _ _ j (item_refused (priority_order (policy_of sheet) (tasks_of sheet)) _ _ (few_tasks sheet s) (order_permutes (policy_of sheet) (tasks_of sheet)) j f) in
           item_within j (omega (arith, it_is, fits.as_many, fits.few_entries, few_tasks sheet s))
 
-  end_within : Playing sheet bytes → Within (play_end sheet bytes)
+  end_within : Playing sheet bytes → Within (Ok (play_end sheet bytes))
   unfolding play_end ended stops_at misser
   end_within p = go (answer (misser (order_in sheet) (tasks_of sheet) (script_for sheet bytes) (stops_at sheet bytes)))
     where
@@ -71,7 +71,7 @@ module _ (sheet bytes : List ℕ) where
           let e = end_is _ _ _ r.permutes r.admitted (script_legal _ _ _ r.permutes r.as_many r.kept) r.ticks_in r.deadlines_in in
           omega (arith, e.before)
 
-      go : Answer (misser (order_in sheet) (tasks_of sheet) (script_for sheet bytes) (stops_at sheet bytes)) → Within (play_end sheet bytes)
+      go : Answer (misser (order_in sheet) (tasks_of sheet) (script_for sheet bytes) (stops_at sheet bytes)) → Within (Ok (play_end sheet bytes))
       go (nothing q) = rw q (done_within (stops_at sheet bytes) within)
       go (it_is i q) =
           let in_set = (first_some 0 (length (tasks_of sheet)) (task_misses (order_in sheet) (tasks_of sheet) (script_for sheet bytes) (stops_at sheet bytes)) q).before in
@@ -82,8 +82,8 @@ module _ (sheet bytes : List ℕ) where
   played_within = go (first_refusal (play_checks sheet bytes)) refl
     where
       go : (o : Option PlayRefusal) → first_refusal (play_checks sheet bytes) ≡ o → Within (played sheet bytes)
-      go none e = rw (← played_ends sheet bytes e) (end_within (is_playing sheet bytes e))
-      go (some r) e = rw (← played_turned sheet bytes e) (turned_within r (refusal_within e))
+      go None e = rw (← played_ends sheet bytes e) (end_within (is_playing sheet bytes e))
+      go (Some r) e = rw (← played_turned sheet bytes e) (turned_within r (refusal_within e))
 
   -- and a trace
   pub traced_within : (room : List ℕ) → Within (traced sheet bytes room)

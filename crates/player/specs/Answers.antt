@@ -1,6 +1,5 @@
 -- SCOPE.md, "The player": what a play and a trace answer to a sheet and a script, refused calls too.
-use Rattle.std.specs.Prelude.{not, List, ◌∷◌, ◌++◌, ℕ, length}
-use Rattle.std.proofs.Math.Option.{Option, none, some}
+use Rattle.std.specs.Prelude.{not, List, ◌∷◌, ◌++◌, ℕ, length, None, Option, Some, Err, Ok, Result}
 use Rattle.lent.specs.Checks.{Check, ◌⇒◌, first_refusal, retold}
 use Rattle.lent.specs.Lent.{Call, answered, left_after}
 use Rattle.sheet.specs.Reading.{sheet_checks, policy_of, tasks_of}
@@ -13,7 +12,7 @@ use Rattle.scripts.specs.Reading.{script_in, well_made}
 use Rattle.player.specs.declared.PlayRefusal.{PlayRefusal}
 use Rattle.player.specs.declared.PlayRefusal.TheVariants.{Base, Malformed as ill_made, Item}
 use Rattle.player.specs.declared.Played.{Played}
-use Rattle.player.specs.declared.Played.TheVariants.{Missed, Done, TurnedAway}
+use Rattle.player.specs.declared.Played.TheVariants.{Missed, Done}
 
 -- the task numbers of a sheet in priority order
 unfoldable pub order_in : List ℕ → List ℕ
@@ -32,8 +31,13 @@ play_checks sheet bytes =
 
 -- the play stops at a moment at which a task misses, or all jobs are done
 unfoldable pub ended : ℕ → Option ℕ → Played
-ended t none = Done t
-ended t (some i) = Missed t i
+ended t None = Done t
+ended t (Some i) = Missed t i
+
+-- the moment of an end
+abbrev pub moment_of : Played → ℕ
+moment_of (Missed t i) = t
+moment_of (Done t) = t
 
 module _ (sheet bytes : List ℕ) where
   -- the moment at which it stops
@@ -45,8 +49,8 @@ module _ (sheet bytes : List ℕ) where
   play_end = ended stops_at (misser (order_in sheet) (tasks_of sheet) (script_for sheet bytes) stops_at)
 
   -- what a play answers
-  unfoldable pub played : Played
-  played = elim (first_refusal (play_checks sheet bytes)) [ none ↦ play_end | some r ↦ TurnedAway r ]
+  unfoldable pub played : Result Played PlayRefusal
+  played = elim (first_refusal (play_checks sheet bytes)) [ None ↦ Ok play_end | Some r ↦ Err r ]
 
   -- a trace: it writes a byte for each tick played, and answers as a play does
   unfoldable pub tracing : Call PlayRefusal ℕ Played
@@ -58,8 +62,8 @@ module _ (sheet bytes : List ℕ) where
       }
 
   -- what a trace answers
-  unfoldable pub traced : List ℕ → Played
-  traced room = answered (Base Room) TurnedAway tracing room
+  unfoldable pub traced : List ℕ → Result Played PlayRefusal
+  traced room = answered (Base Room) tracing room
 
   -- what the lent bytes hold afterwards
   unfoldable pub trace_left : List ℕ → List ℕ

@@ -1,9 +1,9 @@
 -- All jobs are done at a moment: what that says of the entries and the lanes, and that they stay done.
+use Rattle.std.specs.Prelude.{None, Some}
 use mathlib.Core.Bool.{Bool, true, false, not, ◌&&◌, true≢false}
 use mathlib.Core.List.Memᴰ
 use mathlib.Core.List.{List, [], ◌∷◌, Memᴰ}
 use mathlib.Core.Logic.{◌⊎◌, inl, inr, ◌↔◌}
-use mathlib.Core.Option.{none, some}
 use mathlib.Core.Path.{◌≡◌, refl, sym, ap, subst, ◌∙◌}
 use Prim.Native.Nat.{ℕ, zero, suc, ◌≤◌, ◌<◌}
 use native.Mathlib.Nat.{le_trans}
@@ -31,7 +31,7 @@ use Rattle.plays.proofs.OnePending.{oldest_at_most}
 -- ---- entries
 
 -- a release is that of an entry of its tick
-pub released_by : (order : List ℕ) (sc : Script) (t p : ℕ) {w : ℕ} → released_at order sc t p ≡ some w → (e : Entry) × Memᴰ e sc.entries × (e.tick ≡ t)
+pub released_by : (order : List ℕ) (sc : Script) (t p : ℕ) {w : ℕ} → released_at order sc t p ≡ Some w → (e : Entry) × Memᴰ e sc.entries × (e.tick ≡ t)
 unfolding released_at
 released_by order sc t p f =
     let (e, found, _) = work_some {o = entry_of sc.entries (number_at order p) t} f in
@@ -74,7 +74,7 @@ module _ (order : List ℕ) (tasks : List Task) (sc : Script) where
       lane : ℕ → Bool
       lane p = pending ((script_seen order tasks sc t).lanes p)
 
-      free : first 0 (length order) (λ p. pending ((script_seen order tasks sc t).lanes p)) ≡ none → (p : ℕ) → p < length order → lane p ≡ false
+      free : first 0 (length order) (λ p. pending ((script_seen order tasks sc t).lanes p)) ≡ None → (p : ℕ) → p < length order → lane p ≡ false
       free q p h = first_none 0 (length order) (λ p. pending ((script_seen order tasks sc t).lanes p)) q p (omega arith) (omega arith)
 
       quiet : Bool
@@ -127,10 +127,10 @@ module _ (order : List ℕ) (tasks : List Task) (sc : Script) where
       let (b, e) = state_by_serve order tasks sc t p in
       rw e (let less = serve_lane_total b ((script_seen order tasks sc t).lanes p) in omega (arith, d.complete p h))
 
-  none_released : (t : ℕ) → AllReleased sc.entries t → (p : ℕ) → released_at order sc (suc t) p ≡ none
+  none_released : (t : ℕ) → AllReleased sc.entries t → (p : ℕ) → released_at order sc (suc t) p ≡ None
   none_released t all p = go (answer (released_at order sc (suc t) p))
     where
-      go : Answer (released_at order sc (suc t) p) → released_at order sc (suc t) p ≡ none
+      go : Answer (released_at order sc (suc t) p) → released_at order sc (suc t) p ≡ None
       go (nothing e) = e
       go (it_is w e) = let (x, m, at) = released_by order sc (suc t) p e in let z : ⊥ = omega (arith, all x m) in absurd z
 
@@ -140,11 +140,11 @@ module _ (order : List ℕ) (tasks : List Task) (sc : Script) where
         released = λ e m. omega (arith, d.released e m);
         complete = λ p h.
             rw (seen_by_release order tasks sc (suc t) p, none_released t d.released p)
-            (release_total (task_at (by_place order tasks) p) (suc t) none ((script_state order tasks sc (suc t)).lanes p)
+            (release_total (task_at (by_place order tasks) p) (suc t) None ((script_state order tasks sc (suc t)).lanes p)
             ∙ (rw (done_state t d p h, given_none)));
       }
 
   -- after a moment at which all jobs are done no lane has work left
   pub done_stays : (u t : ℕ) → Done u → u < t → (p : ℕ) → p < length order → total ((script_state order tasks sc t).lanes p).jobs ≡ 0
-  done_stays u zero d h p l = let z : ⊥ = omega arith in absurd z
+  done_stays u zero d h p l = absurd (omega arith)
   done_stays u (suc t) d h p l = done_state t (le_ind Done d (λ m _ before. done_step m before) t (omega arith)) p l

@@ -1,6 +1,6 @@
 -- Scripts played by computation: case F in exactly its response time, two tasks that lock, case G's worst run, two frames with a deadline each, two tasks that miss at one moment, no entry and no work.
+use Rattle.std.specs.Prelude.{None, Some}
 use mathlib.Core.List.{List, [], ◌∷◌}
-use mathlib.Core.Option.{none, some}
 use mathlib.Core.Path.{◌≡◌, refl}
 use Prim.Native.Nat.{ℕ}
 use Rattle.lent.specs.Checks.{first_refusal}
@@ -40,7 +40,7 @@ abbrev exactly_4 : Script
 exactly_4 = record { firsts = 0 ∷ 0 ∷ []; entries = at 1 0 5 3 ∷ at 0 1 2 0 ∷ [] }
 
 -- its lock has ticks 0 to 2 and starts anew at tick 5; all jobs are done at 7
-exactly_4_is : (first_refusal (item_checks (two 3) exactly_4) ≡ none) × (end_of_play listed (two 3) exactly_4 ≡ 7) × (misser listed (two 3) exactly_4 7 ≡ none)
+exactly_4_is : (first_refusal (item_checks (two 3) exactly_4) ≡ None) × (end_of_play listed (two 3) exactly_4 ≡ 7) × (misser listed (two 3) exactly_4 7 ≡ None)
     × (shown_from listed (two 3) exactly_4 0 7 ≡ 33 ∷ 33 ∷ 33 ∷ 0 ∷ 0 ∷ 33 ∷ 33 ∷ [])
 unfolding plays
 exactly_4_is = (refl, refl, refl, refl)
@@ -53,7 +53,7 @@ locking = record { period = 8; lock = 2; frames = 3 ∷ 2 ∷ []; deadlines = 7 
 abbrev two_locks : Script
 two_locks = record { firsts = 0 ∷ 0 ∷ []; entries = at 1 0 7 3 ∷ at 0 2 3 2 ∷ at 0 10 2 2 ∷ [] }
 
-two_locks_is : (first_refusal (item_checks locking two_locks) ≡ none) × (end_of_play listed locking two_locks ≡ 12) × (misser listed locking two_locks 12 ≡ none)
+two_locks_is : (first_refusal (item_checks locking two_locks) ≡ None) × (end_of_play listed locking two_locks ≡ 12) × (misser listed locking two_locks 12 ≡ None)
     × (shown_from listed locking two_locks 0 12 ≡ 33 ∷ 33 ∷ 33 ∷ 32 ∷ 32 ∷ 32 ∷ 33 ∷ 33 ∷ 33 ∷ 33 ∷ 32 ∷ 32 ∷ [])
 unfolding plays
 two_locks_is = (refl, refl, refl, refl)
@@ -64,8 +64,8 @@ abbrev worst_of_g : Script
 worst_of_g = record { firsts = 0 ∷ 0 ∷ []; entries = at 1 0 4 4 ∷ at 0 1 2 0 ∷ [] }
 
 -- it is the worst script, and task 0 misses at 1 + D
-worst_of_g_is : (worst_script listed (two 4) 0 0 ≡ worst_of_g) × (first_refusal (item_checks (two 4) worst_of_g) ≡ none)
-    × (end_of_play listed (two 4) worst_of_g ≡ 5) × (misser listed (two 4) worst_of_g 5 ≡ some 0)
+worst_of_g_is : (worst_script listed (two 4) 0 0 ≡ worst_of_g) × (first_refusal (item_checks (two 4) worst_of_g) ≡ None)
+    × (end_of_play listed (two 4) worst_of_g ≡ 5) × (misser listed (two 4) worst_of_g 5 ≡ Some 0)
     × (shown_from listed (two 4) worst_of_g 0 5 ≡ 33 ∷ 33 ∷ 33 ∷ 33 ∷ 0 ∷ [])
 unfolding plays
 worst_of_g_is = (refl, refl, refl, refl, refl)
@@ -76,8 +76,8 @@ abbrev each_its_own : List Task
 each_its_own = record { period = 8; lock = 0; frames = 3 ∷ 1 ∷ []; deadlines = 6 ∷ 2 ∷ [] } ∷ record { period = 20; lock = 3; frames = 4 ∷ []; deadlines = 20 ∷ [] } ∷ []
 
 -- the worst run of frame 1 misses at 1 + 2, that of frame 0 is done at 1 + 5
-each_its_own_is : (misser listed each_its_own (worst_script listed each_its_own 0 1) 3 ≡ some 0) × (end_of_play listed each_its_own (worst_script listed each_its_own 0 1) ≡ 3)
-    × (misser listed each_its_own (worst_script listed each_its_own 0 0) 6 ≡ none) × (end_of_play listed each_its_own (worst_script listed each_its_own 0 0) ≡ 6)
+each_its_own_is : (misser listed each_its_own (worst_script listed each_its_own 0 1) 3 ≡ Some 0) × (end_of_play listed each_its_own (worst_script listed each_its_own 0 1) ≡ 3)
+    × (misser listed each_its_own (worst_script listed each_its_own 0 0) 6 ≡ None) × (end_of_play listed each_its_own (worst_script listed each_its_own 0 0) ≡ 6)
 unfolding plays
 each_its_own_is = (refl, refl, refl, refl)
 
@@ -87,7 +87,7 @@ abbrev three : List Task
 three = let t : Task = record { period = 5; lock = 0; frames = 2 ∷ []; deadlines = 2 ∷ [] } in t ∷ t ∷ t ∷ []
 
 both_miss : let sc : Script = record { firsts = 0 ∷ 0 ∷ 0 ∷ []; entries = at 0 0 2 0 ∷ at 1 0 2 0 ∷ at 2 0 2 0 ∷ [] } in
-    (end_of_play (2 ∷ 1 ∷ 0 ∷ []) three sc ≡ 2) × (misser (2 ∷ 1 ∷ 0 ∷ []) three sc 2 ≡ some 0)
+    (end_of_play (2 ∷ 1 ∷ 0 ∷ []) three sc ≡ 2) × (misser (2 ∷ 1 ∷ 0 ∷ []) three sc 2 ≡ Some 0)
 unfolding plays
 both_miss = (refl, refl)
 

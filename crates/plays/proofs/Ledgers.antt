@@ -1,10 +1,11 @@
 -- Entries in order: each is the one found of its task at its tick, and the ledger of the releases before an entry is the lane of its task in the script's run.
+use Rattle.std.specs.Prelude.{None, Option, Some}
 use mathlib.Core.Bool.{Bool, true, false, cond, ◌&&◌}
 use mathlib.Core.List.Memᴰ
 use mathlib.Core.List.{List, [], ◌∷◌, ◌++◌, Memᴰ}
 use mathlib.Core.Logic.Iff
 use mathlib.Core.Logic.{◌⊎◌, inl, inr, ◌↔◌}
-use mathlib.Core.Option.{Option, none, some, none-ne-some, some-injective}
+use Rattle.theory.proofs.Options.{none_ne_some, some_injective}
 use mathlib.Core.Path.{◌≡◌, refl, sym, ◌∙◌, ap, ap₂}
 use Prim.Native.Nat.{ℕ, zero, suc, ◌+◌, ◌≤◌, ◌<◌, zero-le}
 use native.Mathlib.Decide.{dec_lt, ℕ_discrete}
@@ -114,7 +115,7 @@ module _ (b : ℕ) (xs : List Entry) (e : Entry) (ys : List Entry) (o : InOrder 
 
 module _ (i t : ℕ) (e : Entry) (es : List Entry) where
   -- it is the first of the row where that is the task's at the tick
-  pub entry_here : e.task ≡ i → e.tick ≡ t → entry_of (e ∷ es) i t ≡ some e
+  pub entry_here : e.task ≡ i → e.tick ≡ t → entry_of (e ∷ es) i t ≡ Some e
   unfolding entry_of
   entry_here p q = rw (eq-eqb _ _ p, eq-eqb _ _ q)
 
@@ -123,63 +124,63 @@ module _ (i t : ℕ) (e : Entry) (es : List Entry) where
   unfolding entry_of
   entry_later ne = go (ℕ_discrete e.task i) (ℕ_discrete e.tick t)
     where
-      go : Dec (e.task ≡ i) → Dec (e.tick ≡ t) → cond (eqb e.task i && eqb e.tick t) (some e) (entry_of es i t) ≡ entry_of es i t
+      go : Dec (e.task ≡ i) → Dec (e.tick ≡ t) → cond (eqb e.task i && eqb e.tick t) (Some e) (entry_of es i t) ≡ entry_of es i t
       go (no p) q = rw (ne_eqb _ _ p)
       go (yes p) (yes q) = absurd (ne p q)
       go (yes p) (no q) = rw (eq-eqb _ _ p, ne_eqb _ _ q)
 
 -- no row, no entry
-pub entry_of_nil : (i t : ℕ) → entry_of [] i t ≡ none
+pub entry_of_nil : (i t : ℕ) → entry_of [] i t ≡ None
 unfolding entry_of
 entry_of_nil i t = refl
 
 module _ (i t : ℕ) where
   -- a row of which no entry is the task's at the tick has none
-  pub no_entry_of : (es : List Entry) → ((d : Entry) → Memᴰ d es → d.task ≡ i → d.tick ≡ t → ⊥) → entry_of es i t ≡ none
+  pub no_entry_of : (es : List Entry) → ((d : Entry) → Memᴰ d es → d.task ≡ i → d.tick ≡ t → ⊥) → entry_of es i t ≡ None
   no_entry_of [] h = entry_of_nil i t
   no_entry_of (e ∷ es) h = entry_later i t e es (h e (Memᴰ.head refl)) ∙ no_entry_of es (λ d m. h d (Memᴰ.tail m))
 
   -- where the rows before have none, it is one behind them
-  pub entry_behind : (xs ys : List Entry) → entry_of xs i t ≡ none → entry_of (xs ++ ys) i t ≡ entry_of ys i t
+  pub entry_behind : (xs ys : List Entry) → entry_of xs i t ≡ None → entry_of (xs ++ ys) i t ≡ entry_of ys i t
   unfolding entry_of
   entry_behind [] ys e = refl
   entry_behind (x ∷ xs) ys e = go (eqb x.task i && eqb x.tick t) e (entry_behind xs ys)
     where
-      go : (b : Bool) → cond b (some x) (entry_of xs i t) ≡ none → (entry_of xs i t ≡ none → entry_of (xs ++ ys) i t ≡ entry_of ys i t)
-          → cond b (some x) (entry_of (xs ++ ys) i t) ≡ entry_of ys i t
-      go true q later = absurd (none-ne-some x (sym q))
+      go : (b : Bool) → cond b (Some x) (entry_of xs i t) ≡ None → (entry_of xs i t ≡ None → entry_of (xs ++ ys) i t ≡ entry_of ys i t)
+          → cond b (Some x) (entry_of (xs ++ ys) i t) ≡ entry_of ys i t
+      go true q later = absurd (none_ne_some x (sym q))
       go false q later = later q
 
   -- where the rows behind have none, it is one before them
-  pub entry_before : (xs ys : List Entry) → entry_of ys i t ≡ none → entry_of (xs ++ ys) i t ≡ entry_of xs i t
+  pub entry_before : (xs ys : List Entry) → entry_of ys i t ≡ None → entry_of (xs ++ ys) i t ≡ entry_of xs i t
   unfolding entry_of
   entry_before [] ys e = e
-  entry_before (x ∷ xs) ys e = ap (cond (eqb x.task i && eqb x.tick t) (some x)) (entry_before xs ys e)
+  entry_before (x ∷ xs) ys e = ap (cond (eqb x.task i && eqb x.tick t) (Some x)) (entry_before xs ys e)
 
 -- what is found as the entry of a task at a tick is an entry of the row, of that task and that tick
-pub entry_found : (es : List Entry) (i t : ℕ) (e : Entry) → entry_of es i t ≡ some e
+pub entry_found : (es : List Entry) (i t : ℕ) (e : Entry) → entry_of es i t ≡ Some e
     → (xs ys : List Entry) × (es ≡ xs ++ (e ∷ ys)) × (e.task ≡ i) × (e.tick ≡ t)
-entry_found [] i t e f = absurd (none-ne-some e (sym (entry_of_nil i t) ∙ f))
+entry_found [] i t e f = absurd (none_ne_some e (sym (entry_of_nil i t) ∙ f))
 entry_found (d ∷ es) i t e f = go (ℕ_discrete d.task i) (ℕ_discrete d.tick t) (entry_found es i t e)
   where
     Found : List Entry → Type 0
     Found l = (xs ys : List Entry) × (l ≡ xs ++ (e ∷ ys)) × (e.task ≡ i) × (e.tick ≡ t)
 
-    later : (d.task ≡ i → d.tick ≡ t → ⊥) → (entry_of es i t ≡ some e → Found es) → Found (d ∷ es)
+    later : (d.task ≡ i → d.tick ≡ t → ⊥) → (entry_of es i t ≡ Some e → Found es) → Found (d ∷ es)
     later ne rec = let (xs, ys, split, p, q) = rec (sym (entry_later i t d es ne) ∙ f) in (d ∷ xs, ys, ap (λ l. d ∷ l) split, p, q)
 
-    go : Dec (d.task ≡ i) → Dec (d.tick ≡ t) → (entry_of es i t ≡ some e → Found es) → Found (d ∷ es)
+    go : Dec (d.task ≡ i) → Dec (d.tick ≡ t) → (entry_of es i t ≡ Some e → Found es) → Found (d ∷ es)
     go (no p) q rec = later (λ p' q'. p p') rec
     go (yes p) (no q) rec = later (λ p' q'. q q') rec
-    go (yes p) (yes q) rec = let same : d ≡ e = some-injective d e (sym (entry_here i t d es p q) ∙ f) in ([], es, ap (λ x. x ∷ es) same, rw (← same) p, rw (← same) q)
+    go (yes p) (yes q) rec = let same : d ≡ e = some_injective d e (sym (entry_here i t d es p q) ∙ f) in ([], es, ap (λ x. x ∷ es) same, rw (← same) p, rw (← same) q)
 
 -- of a row in order each entry is the one found of its task at its tick
-pub entry_is : (b : ℕ) (es : List Entry) → InOrder b es → (e : Entry) → Memᴰ e es → entry_of es e.task e.tick ≡ some e
+pub entry_is : (b : ℕ) (es : List Entry) → InOrder b es → (e : Entry) → Memᴰ e es → entry_of es e.task e.tick ≡ Some e
 entry_is b [] o e m = absurd (Memᴰ.not-nil m)
 entry_is b (d ∷ es) o e m = go (Memᴰ.cases_cons m) (entry_is (suc (standing d)) es o.1 e)
   where
-    go : (e ≡ d) ⊎ Memᴰ e es → (Memᴰ e es → entry_of es e.task e.tick ≡ some e) → entry_of (d ∷ es) e.task e.tick ≡ some e
-    go (inl q) later = entry_here _ _ d es (ap (λ x. x.task) (sym q)) (ap (λ x. x.tick) (sym q)) ∙ ap some (sym q)
+    go : (e ≡ d) ⊎ Memᴰ e es → (Memᴰ e es → entry_of es e.task e.tick ≡ Some e) → entry_of (d ∷ es) e.task e.tick ≡ Some e
+    go (inl q) later = entry_here _ _ d es (ap (λ x. x.task) (sym q)) (ap (λ x. x.tick) (sym q)) ∙ ap Some (sym q)
     go (inr n) later =
         entry_later _ _ d es (λ p q. let z : ⊥ = omega (arith, sooner d e (stands_from (suc (standing d)) es o.1 e n) p) in absurd z) ∙ later n
 
@@ -224,14 +225,14 @@ module _ (tasks : List Task) (i : ℕ) where
 
   -- what an entry at tick t, if there is one, does to the turn
   unfoldable turn_by : Option Entry → ℕ → ℕ × ℕ → ℕ × ℕ
-  turn_by none t u = u
-  turn_by (some e) t u = turn_after t u
+  turn_by None t u = u
+  turn_by (Some e) t u = turn_after t u
 
-  turn_by_some : {o : Option Entry} {e : Entry} (t : ℕ) (u : ℕ × ℕ) → o ≡ some e → turn_by o t u ≡ turn_after t u
+  turn_by_some : {o : Option Entry} {e : Entry} (t : ℕ) (u : ℕ × ℕ) → o ≡ Some e → turn_by o t u ≡ turn_after t u
   unfolding turn_by
   turn_by_some t u q = rw q
 
-  turn_by_none : {o : Option Entry} (t : ℕ) (u : ℕ × ℕ) → o ≡ none → turn_by o t u ≡ u
+  turn_by_none : {o : Option Entry} (t : ℕ) (u : ℕ × ℕ) → o ≡ None → turn_by o t u ≡ u
   unfolding turn_by
   turn_by_none t u q = rw q
 
@@ -262,7 +263,7 @@ module _ (tasks : List Task) (i : ℕ) where
 
       own : e.task ≡ i → Dec (e.tick < t) → Dec (e.tick ≡ t) → Later → Goal
       own p (yes l) d later =
-          both (turn_after e.tick u) (turns_own (suc t) e es u p (omega arith)) (turns_own t e es u p l) (λ _ q. let z : ⊥ = omega arith in absurd z) later
+          both (turn_after e.tick u) (turns_own (suc t) e es u p (omega arith)) (turns_own t e es u p l) (λ _ q. absurd (omega arith)) later
       own p (no l) (yes q) later = now p q
       own p (no l) (no q) later = both u (turns_other (suc t) e es u (λ _. omega arith)) (turns_other t e es u (λ _. omega arith)) (λ _ z. q z) later
 
@@ -307,8 +308,8 @@ module _ (order : List ℕ) (tasks : List Task) (sc : Script) (p : ℕ) (in_set 
 
   released_turn : (t : ℕ) (o : Option Entry) (l : Lane) → lane_turn (release_lane (task_at (by_place order tasks) p) t (work_of o) l) ≡ turn_by tasks (number_at order p) o t (lane_turn l)
   unfolding release_lane work_of turn_by turn_after
-  released_turn t none l = refl
-  released_turn t (some e) l = rw (by_place_at order tasks p in_set) refl
+  released_turn t None l = refl
+  released_turn t (Some e) l = rw (by_place_at order tasks p in_set) refl
 
   first_turn : lane_turn ((script_state order tasks sc 0).lanes p) ≡ (get_or sc.firsts (number_at order p) 0, 0)
   unfolding script_state
@@ -390,22 +391,22 @@ after_behind tasks c e = refl
 
 module _ (tasks : List Task) where
   -- of a row that is not turned away the first entry is sound, and the others are not turned away after it
-  checks_passed : (j : ℕ) (c : Ledger) (e : Entry) (es : List Entry) → first_refusal (entry_checks tasks j c (e ∷ es)) ≡ none
-      → Sound tasks c e × (first_refusal (entry_checks tasks (suc j) (after_entry tasks c e) es) ≡ none)
+  checks_passed : (j : ℕ) (c : Ledger) (e : Entry) (es : List Entry) → first_refusal (entry_checks tasks j c (e ∷ es)) ≡ None
+      → Sound tasks c e × (first_refusal (entry_checks tasks (suc j) (after_entry tasks c e) es) ≡ None)
   unfolding entry_checks
   checks_passed j c e es h =
       let (first, rest) = passed _ (entry_checks tasks (suc j) (after_entry tasks c e) es) h in
       ((sound_is tasks c e).0 (not-false _ first), rest)
 
   -- where no entry is turned away, each is sound after those before it
-  pub each_sound : (j : ℕ) (c : Ledger) (xs : List Entry) (e : Entry) (ys : List Entry) → first_refusal (entry_checks tasks j c (xs ++ (e ∷ ys))) ≡ none
+  pub each_sound : (j : ℕ) (c : Ledger) (xs : List Entry) (e : Entry) (ys : List Entry) → first_refusal (entry_checks tasks j c (xs ++ (e ∷ ys))) ≡ None
       → Sound tasks (after_entries tasks c xs) e
   unfolding after_entries
   each_sound j c [] e ys h = (checks_passed j c e ys h).0
   each_sound j c (x ∷ xs) e ys h = each_sound (suc j) (after_entry tasks c x) xs e ys (checks_passed j c x (xs ++ (e ∷ ys)) h).1
 
   -- and they are in order
-  pub checked_in_order : (j : ℕ) (c : Ledger) (es : List Entry) → first_refusal (entry_checks tasks j c es) ≡ none → InOrder c.behind es
+  pub checked_in_order : (j : ℕ) (c : Ledger) (es : List Entry) → first_refusal (entry_checks tasks j c es) ≡ None → InOrder c.behind es
   checked_in_order j c [] h = tt
   checked_in_order j c (e ∷ es) h =
       let (first, rest) = checks_passed j c e es h in

@@ -1,9 +1,9 @@
 -- Before the first miss at most one job of a task is pending, and it is the last one released.
+use Rattle.std.specs.Prelude.{None, Option, Some}
 use mathlib.Core.Bool.{Bool, true, false, ◌&&◌, ◌||◌, or-true, or-false, true≢false, false≢true}
 use mathlib.Core.List.Memᴰ
 use mathlib.Core.List.{List, [], ◌∷◌, ◌++◌, append-nil, Memᴰ}
 use mathlib.Core.Logic.{◌⊎◌, inl, inr}
-use mathlib.Core.Option.{Option, none, some}
 use mathlib.Core.Path.{◌≡◌, refl, sym, subst, ap, ◌∙◌}
 use Prim.Native.Nat.{ℕ, zero, suc, ◌+◌, ◌≤◌, ◌<◌}
 use native.Mathlib.Nat.{le_refl}
@@ -65,7 +65,7 @@ module _ (task : Task) (t : ℕ) where
     where
       go : (job r k (suc w) ≡ job r' k' zero) ⊎ Memᴰ (job r k (suc w)) js
           → (Memᴰ (job r k (suc w)) js → r + deadline_of task k ≡ t → misses_now task t js ≡ true) → misses_now task t js ≡ true
-      go (inl e) later = let z : suc w ≡ 0 = cc in let z : ⊥ = omega arith in absurd z
+      go (inl e) later = let z : suc w ≡ 0 = cc in absurd (omega arith)
       go (inr m) later = later m due
   job_misses (job r' k' (suc w') ∷ js) {r} {k} {w} m due = go (Memᴰ.cases_cons m) (job_misses js)
     where
@@ -86,7 +86,7 @@ none_left (job r k (suc w) ∷ js) h = absurd (h r k w (Memᴰ.head refl))
 -- work: some job has work left
 pub some_left : (js : List Job) → 1 ≤ total js → (r k w : ℕ) × Memᴰ (job r k (suc w)) js
 unfolding total
-some_left [] h = let z : ⊥ = omega arith in absurd z
+some_left [] h = absurd (omega arith)
 some_left (job r k zero ∷ js) h = let (r', k', w, m) = some_left js (omega arith) in (r', k', w, Memᴰ.tail m)
 some_left (job r k (suc w) ∷ js) h = (r, k, w, Memᴰ.head refl)
 
@@ -102,25 +102,25 @@ oldest_behind : (older js : List Job) → total older ≡ 0 → oldest_left (old
 unfolding total oldest_left
 oldest_behind [] js e = refl
 oldest_behind (job r k zero ∷ older) js e = oldest_behind older js (omega arith)
-oldest_behind (job r k (suc w) ∷ older) js e = let z : ⊥ = omega arith in absurd z
+oldest_behind (job r k (suc w) ∷ older) js e = absurd (omega arith)
 
 lock_behind : (sc : Script) (i : ℕ) (older js : List Job) → total older ≡ 0 → pending_lock sc i (older ++ js) ≡ pending_lock sc i js
 unfolding total pending_lock
 lock_behind sc i [] js e = refl
 lock_behind sc i (job r k zero ∷ older) js e = lock_behind sc i older js (omega arith)
-lock_behind sc i (job r k (suc w) ∷ older) js e = let z : ⊥ = omega arith in absurd z
+lock_behind sc i (job r k (suc w) ∷ older) js e = absurd (omega arith)
 
 misses_behind : (task : Task) (t : ℕ) (older js : List Job) → total older ≡ 0 → misses_now task t (older ++ js) ≡ misses_now task t js
 unfolding total
 misses_behind task t [] js e = refl
 misses_behind task t (job r k zero ∷ older) js e = misses_complete task t r k (older ++ js) ∙ misses_behind task t older js (omega arith)
-misses_behind task t (job r k (suc w) ∷ older) js e = let z : ⊥ = omega arith in absurd z
+misses_behind task t (job r k (suc w) ∷ older) js e = absurd (omega arith)
 
 serve_behind : (older js : List Job) → total older ≡ 0 → serve (older ++ js) ≡ older ++ serve js
 unfolding total serve
 serve_behind [] js e = refl
 serve_behind (job r k zero ∷ older) js e = rw (serve_behind older js (omega arith)) refl
-serve_behind (job r k (suc w) ∷ older) js e = let z : ⊥ = omega arith in absurd z
+serve_behind (job r k (suc w) ∷ older) js e = absurd (omega arith)
 
 -- nothing has work left
 module _ (js : List Job) (e : total js ≡ 0) where
@@ -166,7 +166,7 @@ one_released js r k (suc w) e = one_left js r k w (nothing_oldest js e) refl
 -- after a tick of work
 pub one_served : (js : List Job) → AtMostOne js → AtMostOne (serve js)
 one_served js (nothing_left e) = nothing_left (nothing_oldest (serve js) (omega (arith, serve_total_le js, oldest_none js e)))
-one_served js (one_left older r k w e same) = let none = oldest_none older e in rw (same, one_left_served older r k w none) (one_released older r k w none)
+one_served js (one_left older r k w e same) = let None = oldest_none older e in rw (same, one_left_served older r k w None) (one_released older r k w None)
 
 one_served_lane : (b : Bool) (l : Lane) → AtMostOne l.jobs → AtMostOne (serve_lane b l).jobs
 unfolding serve_lane
@@ -188,7 +188,7 @@ module _ (order : List ℕ) (tasks : List Task) (sc : Script) where
     misses_in_lane t i h = rw (task_of_number order tasks permutes i h) refl
 
     -- where no task misses no job with work left is due
-    not_due : (t : ℕ) → misser order tasks sc t ≡ none → (p : ℕ) → p < length order
+    not_due : (t : ℕ) → misser order tasks sc t ≡ None → (p : ℕ) → p < length order
         → Unfinished (λ r k. r + deadline_of (task_at (by_place order tasks) p) k ≡ t → ⊥) ((script_state order tasks sc t).lanes p).jobs
     unfolding misser
     not_due t e p h r k w m due =
@@ -212,7 +212,7 @@ module _ (order : List ℕ) (tasks : List Task) (sc : Script) where
       still_due t before r k w m = go (seen_job order tasks sc t p m)
         where
           go : Memᴰ (job r k (suc w)) ((script_state order tasks sc t).lanes p).jobs
-              ⊎ ((r ≡ t) × (k ≡ ((script_state order tasks sc t).lanes p).next) × (released_at order sc t p ≡ some (suc w))) → Due t r k
+              ⊎ ((r ≡ t) × (k ≡ ((script_state order tasks sc t).lanes p).next) × (released_at order sc t p ≡ Some (suc w))) → Due t r k
           go (inl m) = before r k w m
           go (inr (now, next, _)) =
               omega (arith, deadline_positive order tasks sc by_set legal p in_order k (rw next (script_next_in order tasks sc by_set legal p in_order t)))
@@ -233,7 +233,7 @@ module _ (order : List ℕ) (tasks : List Task) (sc : Script) where
       seen_due_later t calm = still_due t (due_later t calm)
 
       -- a task is released with nothing of it pending
-      pub released_alone : (t : ℕ) → Calm order tasks sc t → {v : ℕ} → released_at order sc t p ≡ some v → total ((script_state order tasks sc t).lanes p).jobs ≡ 0
+      pub released_alone : (t : ℕ) → Calm order tasks sc t → {v : ℕ} → released_at order sc t p ≡ Some v → total ((script_state order tasks sc t).lanes p).jobs ≡ 0
       released_alone t calm e = none_left ((script_state order tasks sc t).lanes p).jobs over_due
         where
           over_due : Unfinished (λ r k. ⊥) ((script_state order tasks sc t).lanes p).jobs
@@ -253,8 +253,8 @@ module _ (order : List ℕ) (tasks : List Task) (sc : Script) where
         where
           go : (o : Option ℕ) → released_at order sc t p ≡ o
               → AtMostOne (release_lane (task_at (by_place order tasks) p) t o ((script_state order tasks sc t).lanes p)).jobs
-          go none e = one
-          go (some v) e = one_released ((script_state order tasks sc t).lanes p).jobs t ((script_state order tasks sc t).lanes p).next v (released_alone t calm e)
+          go None e = one
+          go (Some v) e = one_released ((script_state order tasks sc t).lanes p).jobs t ((script_state order tasks sc t).lanes p).next v (released_alone t calm e)
 
       -- at most one job of the task is pending
       pub one_pending : (t : ℕ) → Calm order tasks sc t → AtMostOne ((script_state order tasks sc t).lanes p).jobs

@@ -1,8 +1,8 @@
 -- Every play ends, by twice the greatest time, and before its end no task misses.
+use Rattle.std.specs.Prelude.{None, Some}
 use mathlib.Core.Bool.{true, false, ◌||◌, or-true, true≢false}
 use mathlib.Core.List.{List}
 use mathlib.Core.Logic.{◌⊎◌, inl, inr}
-use mathlib.Core.Option.{none, some}
 use mathlib.Core.Path.{◌≡◌, refl, sym, ap, ◌∙◌}
 use Prim.Native.Nat.{ℕ, suc, ◌*◌, ◌≤◌, ◌<◌}
 use native.Mathlib.Decide.{dec_lt}
@@ -34,19 +34,19 @@ module _ (order : List ℕ) (tasks : List Task) (sc : Script) where
   over_is t = refl
 
   -- a play that is not over has no miss and jobs to be done
-  pub not_over : (t : ℕ) → over order tasks sc t ≡ false → (misser order tasks sc t ≡ none) × (all_done order tasks sc t ≡ false)
+  pub not_over : (t : ℕ) → over order tasks sc t ≡ false → (misser order tasks sc t ≡ None) × (all_done order tasks sc t ≡ false)
   not_over t e = go (bool_cases (found (misser order tasks sc t)))
     where
-      go : (found (misser order tasks sc t) ≡ true) ⊎ (found (misser order tasks sc t) ≡ false) → (misser order tasks sc t ≡ none) × (all_done order tasks sc t ≡ false)
+      go : (found (misser order tasks sc t) ≡ true) ⊎ (found (misser order tasks sc t) ≡ false) → (misser order tasks sc t ≡ None) × (all_done order tasks sc t ≡ false)
       go (inl y) = absurd (true≢false (sym (over_is t ∙ ap (λ b. b || all_done order tasks sc t) y) ∙ e))
       go (inr n) = (found_none n, sym (over_is t ∙ ap (λ b. b || all_done order tasks sc t) n) ∙ e)
 
   -- without a miss and with jobs to be done it is not over
-  pub still_on : (t : ℕ) → misser order tasks sc t ≡ none → all_done order tasks sc t ≡ false → over order tasks sc t ≡ false
-  still_on t calm undone = over_is t ∙ rw (calm, undone, none_found {o = none} refl)
+  pub still_on : (t : ℕ) → misser order tasks sc t ≡ None → all_done order tasks sc t ≡ false → over order tasks sc t ≡ false
+  still_on t calm undone = over_is t ∙ rw (calm, undone, none_found {o = None} refl)
 
   -- with a miss it is over
-  pub over_by_miss : (t : ℕ) {i : ℕ} → misser order tasks sc t ≡ some i → over order tasks sc t ≡ true
+  pub over_by_miss : (t : ℕ) {i : ℕ} → misser order tasks sc t ≡ Some i → over order tasks sc t ≡ true
   over_by_miss t e = over_is t ∙ ap (λ b. b || all_done order tasks sc t) (some_found e)
 
   -- with all jobs done it is over
@@ -54,7 +54,7 @@ module _ (order : List ℕ) (tasks : List Task) (sc : Script) where
   over_by_done t e = over_is t ∙ ap (λ b. found (misser order tasks sc t) || b) e ∙ or-true (found (misser order tasks sc t))
 
   -- a play that is over without a miss has all jobs done
-  pub over_calm : (t : ℕ) → over order tasks sc t ≡ true → misser order tasks sc t ≡ none → all_done order tasks sc t ≡ true
+  pub over_calm : (t : ℕ) → over order tasks sc t ≡ true → misser order tasks sc t ≡ None → all_done order tasks sc t ≡ true
   over_calm t e calm = sym (over_is t ∙ ap (λ b. b || all_done order tasks sc t) (none_found calm)) ∙ e
 
   -- ---- it ends
@@ -85,10 +85,10 @@ module _ (order : List ℕ) (tasks : List Task) (sc : Script) where
               omega (arith, ticks_in e n, seen_due_later order tasks sc permutes admitted legal p h (2 * greatest_time) calm r k w m)
 
       -- every play ends
-      pub play_ends : (t : ℕ) × (first 0 (suc (2 * greatest_time)) (over order tasks sc) ≡ some t)
+      pub play_ends : (t : ℕ) × (first 0 (suc (2 * greatest_time)) (over order tasks sc) ≡ Some t)
       play_ends = go (answer (first 0 (suc (2 * greatest_time)) (over order tasks sc)))
         where
-          go : Answer (first 0 (suc (2 * greatest_time)) (over order tasks sc)) → (t : ℕ) × (first 0 (suc (2 * greatest_time)) (over order tasks sc) ≡ some t)
+          go : Answer (first 0 (suc (2 * greatest_time)) (over order tasks sc)) → (t : ℕ) × (first 0 (suc (2 * greatest_time)) (over order tasks sc) ≡ Some t)
           go (it_is t e) = (t, e)
           go (nothing e) =
               let on : (u : ℕ) → u ≤ 2 * greatest_time → over order tasks sc u ≡ false =
@@ -112,13 +112,13 @@ module _ (order : List ℕ) (tasks : List Task) (sc : Script) where
           go (no l) (no m) = omega arith
 
       -- before the end no task misses, and jobs are to be done
-      pub before_end : (u : ℕ) → u < end_of_play order tasks sc → (misser order tasks sc u ≡ none) × (all_done order tasks sc u ≡ false)
+      pub before_end : (u : ℕ) → u < end_of_play order tasks sc → (misser order tasks sc u ≡ None) × (all_done order tasks sc u ≡ false)
       before_end u h = not_over u (end_is.earlier u (omega arith) h)
 
       -- no task misses up to the end, if none misses there
-      pub calm_to_end : misser order tasks sc (end_of_play order tasks sc) ≡ none → Calm order tasks sc (end_of_play order tasks sc)
+      pub calm_to_end : misser order tasks sc (end_of_play order tasks sc) ≡ None → Calm order tasks sc (end_of_play order tasks sc)
       calm_to_end e u h = go (dec_lt u (end_of_play order tasks sc))
         where
-          go : Dec (u < end_of_play order tasks sc) → misser order tasks sc u ≡ none
+          go : Dec (u < end_of_play order tasks sc) → misser order tasks sc u ≡ None
           go (yes l) = (before_end u l).0
           go (no l) = let last : u ≡ end_of_play order tasks sc = omega arith in rw last e

@@ -1,8 +1,8 @@
 -- How a play ends, in the words of the theory: with the first miss of the script's run, or, where no job of it misses, when the last job is complete.
+use Rattle.std.specs.Prelude.{None, Some}
 use mathlib.Core.Bool.{true, false, true≢false}
 use mathlib.Core.List.{List, Memᴰ}
 use mathlib.Core.Logic.{◌⊎◌, inl, inr, ◌↔◌}
-use mathlib.Core.Option.{none, some}
 use mathlib.Core.Path.{◌≡◌, refl, sym, subst, ◌∙◌}
 use Prim.Native.Nat.{ℕ, zero, suc, ◌+◌, ◌≤◌, ◌<◌}
 use native.Mathlib.Decide.{dec_le}
@@ -65,12 +65,12 @@ module _ (order : List ℕ) (tasks : List Task) (sc : Script) where
       -- and one that has such a job misses
       job_late : (n t i r k w : ℕ) → i < length tasks → r + deadline_of (task_at (by_place order tasks) (place_of order i)) k ≡ t → 1 ≤ w
           → Left (by_place order tasks) (script_run order tasks sc n) (place_of order i) r k t w → task_misses order tasks sc t i ≡ true
-      job_late n t i r k zero h due some_work l = let z : ⊥ = omega arith in absurd z
+      job_late n t i r k zero h due some_work l = absurd (omega arith)
       job_late n t i r k (suc w) h due some_work l =
           misses_in_lane order tasks sc permutes t i h ∙ go (seen_job order tasks sc t (place_of order i) (left_stands n t (place_of order i) l))
         where
           go : Memᴰ (job r k (suc w)) ((script_state order tasks sc t).lanes (place_of order i)).jobs
-              ⊎ ((r ≡ t) × (k ≡ ((script_state order tasks sc t).lanes (place_of order i)).next) × (released_at order sc t (place_of order i) ≡ some (suc w)))
+              ⊎ ((r ≡ t) × (k ≡ ((script_state order tasks sc t).lanes (place_of order i)).next) × (released_at order sc t (place_of order i) ≡ Some (suc w)))
               → misses_now (task_at (by_place order tasks) (place_of order i)) t ((script_state order tasks sc t).lanes (place_of order i)).jobs ≡ true
           go (inl m) = job_misses _ t _ m due
           go (inr (now, next, _)) =
@@ -109,7 +109,7 @@ module _ (order : List ℕ) (tasks : List Task) (sc : Script) where
       not_misses n t i h e m = true≢false (sym (shows_misses n t i h m) ∙ e)
 
       -- no task misses at a moment
-      pub misser_none : (t : ℕ) → (misser order tasks sc t ≡ none) ↔ ((i : ℕ) → i < length tasks → MissAt order tasks sc t i → ⊥)
+      pub misser_none : (t : ℕ) → (misser order tasks sc t ≡ None) ↔ ((i : ℕ) → i < length tasks → MissAt order tasks sc t i → ⊥)
       unfolding misser
       misser_none t = (
         λ e i h. not_misses t t i h (first_none 0 (length tasks) (task_misses order tasks sc t) e i (omega arith) (omega arith)),
@@ -117,7 +117,7 @@ module _ (order : List ℕ) (tasks : List Task) (sc : Script) where
       )
 
       -- where a task that misses at a moment is named it has the lowest number
-      pub misser_some : (t i : ℕ) → (misser order tasks sc t ≡ some i) ↔ ((i < length tasks) × MissAt order tasks sc t i × ((j : ℕ) → j < i → MissAt order tasks sc t j → ⊥))
+      pub misser_some : (t i : ℕ) → (misser order tasks sc t ≡ Some i) ↔ ((i < length tasks) × MissAt order tasks sc t i × ((j : ℕ) → j < i → MissAt order tasks sc t j → ⊥))
       unfolding misser
       misser_some t i = (
         λ e.
@@ -188,10 +188,10 @@ module _ (order : List ℕ) (tasks : List Task) (sc : Script) where
 
       module _ (ticks_in : AllReleased sc.entries greatest_time) (deadlines_in : (i k : ℕ) → i < length tasks → deadline_of (task_at tasks i) k ≤ greatest_time) where
         -- a play ends with a miss of task i at moment t where that is the first miss, the lower number first
-        pub play_misses : (t i : ℕ) → ((end_of_play order tasks sc ≡ t) × (misser order tasks sc t ≡ some i)) ↔ FirstMiss order tasks sc t i
+        pub play_misses : (t i : ℕ) → ((end_of_play order tasks sc ≡ t) × (misser order tasks sc t ≡ Some i)) ↔ FirstMiss order tasks sc t i
         play_misses t i = (there, back)
           where
-            there : (end_of_play order tasks sc ≡ t) × (misser order tasks sc t ≡ some i) → FirstMiss order tasks sc t i
+            there : (end_of_play order tasks sc ≡ t) × (misser order tasks sc t ≡ Some i) → FirstMiss order tasks sc t i
             there (e, m) =
                 let (h, miss, lowest) = (misser_some t i).0 m in
                 record {
@@ -209,19 +209,19 @@ module _ (order : List ℕ) (tasks : List Task) (sc : Script) where
                 go (inl y) = absurd (done_no_miss u t t i ((done_is order tasks sc u).0 y) l f.task_in f.misses)
                 go (inr n) = n
 
-            back : FirstMiss order tasks sc t i → (end_of_play order tasks sc ≡ t) × (misser order tasks sc t ≡ some i)
+            back : FirstMiss order tasks sc t i → (end_of_play order tasks sc ≡ t) × (misser order tasks sc t ≡ Some i)
             back f =
-                let m : misser order tasks sc t ≡ some i = (misser_some t i).1 (f.task_in, f.misses, f.lowest_number) in (
+                let m : misser order tasks sc t ≡ Some i = (misser_some t i).1 (f.task_in, f.misses, f.lowest_number) in (
                   end_unique order tasks sc permutes admitted legal ticks_in deadlines_in t (over_by_miss order tasks sc t m)
                       (λ u l. still_on order tasks sc u ((misser_none u).1 (λ j h. f.none_before u j l h)) (undone f u l)),
                   m,
                 )
 
         -- a play ends without a miss at moment t where no job of the script's run misses and the last job is complete at t
-        pub play_done : (t : ℕ) → ((end_of_play order tasks sc ≡ t) × (misser order tasks sc t ≡ none)) ↔ (NeverMisses order tasks sc × LastComplete order tasks sc t)
+        pub play_done : (t : ℕ) → ((end_of_play order tasks sc ≡ t) × (misser order tasks sc t ≡ None)) ↔ (NeverMisses order tasks sc × LastComplete order tasks sc t)
         play_done t = (there, back)
           where
-            there : (end_of_play order tasks sc ≡ t) × (misser order tasks sc t ≡ none) → NeverMisses order tasks sc × LastComplete order tasks sc t
+            there : (end_of_play order tasks sc ≡ t) × (misser order tasks sc t ≡ None) → NeverMisses order tasks sc × LastComplete order tasks sc t
             there (e, calm) = (no_miss, last)
               where
                 over_then : over order tasks sc t ≡ true
@@ -256,7 +256,7 @@ module _ (order : List ℕ) (tasks : List Task) (sc : Script) where
                           (undone_shows u).0 ((undone_is order tasks sc u).0 (before_end order tasks sc permutes admitted legal ticks_in deadlines_in u (omega arith)).1);
                     }
 
-            back : NeverMisses order tasks sc × LastComplete order tasks sc t → (end_of_play order tasks sc ≡ t) × (misser order tasks sc t ≡ none)
+            back : NeverMisses order tasks sc × LastComplete order tasks sc t → (end_of_play order tasks sc ≡ t) × (misser order tasks sc t ≡ None)
             back (no_miss, last) = (
               end_unique order tasks sc permutes admitted legal ticks_in deadlines_in t
                   (over_by_done order tasks sc t ((done_is order tasks sc t).1 ((done_shows t).1 (last.all_released, last.all_complete))))
@@ -264,5 +264,5 @@ module _ (order : List ℕ) (tasks : List Task) (sc : Script) where
               calm t,
             )
               where
-                calm : (u : ℕ) → misser order tasks sc u ≡ none
+                calm : (u : ℕ) → misser order tasks sc u ≡ None
                 calm u = (misser_none u).1 (λ i h (r, k, due, m). no_miss u i r k h m)

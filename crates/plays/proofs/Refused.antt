@@ -1,9 +1,10 @@
 -- Refusal 14 names the item of a script that is the first to be wrong, and names it whenever there is one.
+use Rattle.std.specs.Prelude.{None, Some}
 use mathlib.Core.Bool.{Bool, true, false, not}
 use mathlib.Core.List.Memᴰ
 use mathlib.Core.List.{List, [], ◌∷◌, ◌++◌, append-nil, concat, concat-eq-append, eq-nil-or-concat}
 use mathlib.Core.Logic.{◌⊎◌, inl, inr}
-use mathlib.Core.Option.{none, some, none-ne-some, some-injective}
+use Rattle.theory.proofs.Options.{none_ne_some, some_injective}
 use mathlib.Core.Path.{◌≡◌, refl, sym, ◌∙◌, ap, ap₂}
 use Prim.Native.Nat.{ℕ, zero, suc, ◌+◌, ◌≤◌, ◌<◌}
 use native.Mathlib.Decide.{dec_le, dec_lt}
@@ -33,9 +34,9 @@ use Rattle.plays.proofs.ScriptLegal.{firsts_fit, firsts_and_entries}
 -- ---- which item is turned away
 
 -- the item of the first check that fails, or one of the others
-turned_away : (kept : Bool) (i : ℕ) (cs : List (Check ℕ)) (j : ℕ) → first_refusal ((not kept ⇒ i) ∷ cs) ≡ some j
-    → ((kept ≡ false) × (i ≡ j)) ⊎ ((kept ≡ true) × (first_refusal cs ≡ some j))
-turned_away false i cs j h = inl (refl, some-injective i j (sym (applies true i cs refl) ∙ h))
+turned_away : (kept : Bool) (i : ℕ) (cs : List (Check ℕ)) (j : ℕ) → first_refusal ((not kept ⇒ i) ∷ cs) ≡ Some j
+    → ((kept ≡ false) × (i ≡ j)) ⊎ ((kept ≡ true) × (first_refusal cs ≡ Some j))
+turned_away false i cs j h = inl (refl, some_injective i j (sym (applies true i cs refl) ∙ h))
 turned_away true i cs j h = inr (refl, sym (passed_over false i cs refl) ∙ h)
 
 module _ (tasks : List Task) where
@@ -51,18 +52,18 @@ module _ (tasks : List Task) where
   more_fit a i k ks first others zero l = rw (add-zero a) first
   more_fit a i k ks first others (suc m) l = let same : suc a + m ≡ a + suc m = omega arith in rw (← same) (others m (omega arith))
 
-  first_turned_away : (a : ℕ) (ks : List ℕ) (j : ℕ) → first_refusal (first_frame_checks tasks a ks) ≡ some j → FrameTurned j a ks
+  first_turned_away : (a : ℕ) (ks : List ℕ) (j : ℕ) → first_refusal (first_frame_checks tasks a ks) ≡ Some j → FrameTurned j a ks
   unfolding first_frame_checks
-  first_turned_away a [] j h = absurd (none-ne-some j (sym no_check ∙ h))
+  first_turned_away a [] j h = absurd (none_ne_some j (sym no_check ∙ h))
   first_turned_away a (k ∷ ks) j h =
       go (turned_away (ltb k (frame_count (task_at tasks a))) a (first_frame_checks tasks (suc a) ks) j h) (first_turned_away (suc a) ks j)
     where
       Later : Type 0
-      Later = first_refusal (first_frame_checks tasks (suc a) ks) ≡ some j
+      Later = first_refusal (first_frame_checks tasks (suc a) ks) ≡ Some j
 
       go : ((ltb k (frame_count (task_at tasks a)) ≡ false) × (a ≡ j)) ⊎ ((ltb k (frame_count (task_at tasks a)) ≡ true) × Later)
           → (Later → FrameTurned j (suc a) ks) → FrameTurned j a (k ∷ ks)
-      go (inl (bad, here)) later = (0, omega arith, omega arith, rw (← here) (ltb-false _ _ bad), λ m l. let z : ⊥ = omega arith in absurd z)
+      go (inl (bad, here)) later = (0, omega arith, omega arith, rw (← here) (ltb-false _ _ bad), λ m l. absurd (omega arith))
       go (inr (good, there)) later =
           let (i, at, in_row, bad, fit) = later there in (suc i, omega arith, omega arith, bad, more_fit a i k ks (ltb-true _ _ good) fit)
 
@@ -70,16 +71,16 @@ module _ (tasks : List Task) where
   abbrev EntryTurned : ℕ → ℕ → Ledger → List Entry → Type 0
   EntryTurned j a c es =
       (xs : List Entry) × (e : Entry) × (ys : List Entry) × (es ≡ xs ++ (e ∷ ys)) × (j ≡ a + length xs)
-      × (first_refusal (entry_checks tasks a c xs) ≡ none) × (sound tasks (after_entries tasks c xs) e ≡ false)
+      × (first_refusal (entry_checks tasks a c xs) ≡ None) × (sound tasks (after_entries tasks c xs) e ≡ false)
 
-  entry_turned_away : (a : ℕ) (c : Ledger) (es : List Entry) (j : ℕ) → first_refusal (entry_checks tasks a c es) ≡ some j → EntryTurned j a c es
+  entry_turned_away : (a : ℕ) (c : Ledger) (es : List Entry) (j : ℕ) → first_refusal (entry_checks tasks a c es) ≡ Some j → EntryTurned j a c es
   unfolding entry_checks after_entries
-  entry_turned_away a c [] j h = absurd (none-ne-some j (sym no_check ∙ h))
+  entry_turned_away a c [] j h = absurd (none_ne_some j (sym no_check ∙ h))
   entry_turned_away a c (e ∷ es) j h =
       go (turned_away (sound tasks c e) a (entry_checks tasks (suc a) (after_entry tasks c e) es) j h) (entry_turned_away (suc a) (after_entry tasks c e) es j)
     where
       Later : Type 0
-      Later = first_refusal (entry_checks tasks (suc a) (after_entry tasks c e) es) ≡ some j
+      Later = first_refusal (entry_checks tasks (suc a) (after_entry tasks c e) es) ≡ Some j
 
       go : ((sound tasks c e ≡ false) × (a ≡ j)) ⊎ ((sound tasks c e ≡ true) × Later) → (Later → EntryTurned j (suc a) (after_entry tasks c e) es)
           → EntryTurned j a c (e ∷ es)
@@ -193,27 +194,27 @@ module _ (order : List ℕ) (tasks : List Task) (sc : Script) (few : length task
         omega arith
 
   -- entries of which none is turned away are in order
-  passed_in_order : (xs : List Entry) → first_refusal (entry_checks tasks (length sc.firsts) (first_ledger sc.firsts) xs) ≡ none → InOrder 0 xs
+  passed_in_order : (xs : List Entry) → first_refusal (entry_checks tasks (length sc.firsts) (first_ledger sc.firsts) xs) ≡ None → InOrder 0 xs
   unfolding first_ledger
   passed_in_order xs kept = checked_in_order tasks (length sc.firsts) (first_ledger sc.firsts) xs kept
 
   -- and none of them breaks anything
-  passed_unbroken : (xs : List Entry) → first_refusal (entry_checks tasks (length sc.firsts) (first_ledger sc.firsts) xs) ≡ none → NoneBreaks order tasks sc xs
+  passed_unbroken : (xs : List Entry) → first_refusal (entry_checks tasks (length sc.firsts) (first_ledger sc.firsts) xs) ≡ None → NoneBreaks order tasks sc xs
   passed_unbroken xs kept us d vs split =
       sound_breaks_nothing us d (in_order_begin 0 us (d ∷ vs) (rw (← split) (passed_in_order xs kept)))
       (each_sound tasks (length sc.firsts) (first_ledger sc.firsts) us d vs (rw (← split) kept))
 
-  frame_refused : (j : ℕ) → first_refusal (first_frame_checks tasks 0 sc.firsts) ≡ some j → BrokenAt order tasks sc j
+  frame_refused : (j : ℕ) → first_refusal (first_frame_checks tasks 0 sc.firsts) ≡ Some j → BrokenAt order tasks sc j
   frame_refused j h =
       let (i, at, in_row, bad, fit) = first_turned_away tasks 0 sc.firsts j h in
       let same : i ≡ j = omega arith in
       no_such_frame (rw (← same) in_row) (rw same at bad) (λ m l. rw (zero-add m) at (fit m (omega arith)))
 
-  frames_pass : first_refusal (first_frame_checks tasks 0 sc.firsts) ≡ none → FramesBefore tasks sc (length sc.firsts)
+  frames_pass : first_refusal (first_frame_checks tasks 0 sc.firsts) ≡ None → FramesBefore tasks sc (length sc.firsts)
   frames_pass kept i l = rw (zero-add i) at (firsts_fit tasks 0 sc.firsts kept i l)
 
-  entry_refused : (j : ℕ) → first_refusal (first_frame_checks tasks 0 sc.firsts) ≡ none
-      → first_refusal (entry_checks tasks (length sc.firsts) (first_ledger sc.firsts) sc.entries) ≡ some j → BrokenAt order tasks sc j
+  entry_refused : (j : ℕ) → first_refusal (first_frame_checks tasks 0 sc.firsts) ≡ None
+      → first_refusal (entry_checks tasks (length sc.firsts) (first_ledger sc.firsts) sc.entries) ≡ Some j → BrokenAt order tasks sc j
   entry_refused j frames h =
       let (xs, e, ys, split, at, kept, bad) = entry_turned_away tasks (length sc.firsts) (first_ledger sc.firsts) sc.entries j h in
       broken_entry xs e ys split at (frames_pass frames) (passed_unbroken xs kept)
@@ -222,7 +223,7 @@ module _ (order : List ℕ) (tasks : List Task) (sc : Script) (few : length task
       (refused bad (sound_is tasks (ledger xs) e)))
 
   -- the item that is turned away is the first that is wrong
-  pub item_refused : (j : ℕ) → first_refusal (item_checks tasks sc) ≡ some j → BrokenAt order tasks sc j
+  pub item_refused : (j : ℕ) → first_refusal (item_checks tasks sc) ≡ Some j → BrokenAt order tasks sc j
   unfolding item_checks
   item_refused j h = go (answer (first_refusal frames))
     where
@@ -237,7 +238,7 @@ module _ (order : List ℕ) (tasks : List Task) (sc : Script) (few : length task
       go (it_is i e) = frame_refused j (e ∙ sym (some_first frames entries i e) ∙ h)
 
   -- where no item is turned away, none is wrong
-  none_broken : first_refusal (item_checks tasks sc) ≡ none → (j : ℕ) → BrokenAt order tasks sc j → ⊥
+  none_broken : first_refusal (item_checks tasks sc) ≡ None → (j : ℕ) → BrokenAt order tasks sc j → ⊥
   none_broken kept j (no_such_frame l bad before) = omega (arith, frames_pass (firsts_and_entries tasks sc kept).0 j l)
   none_broken kept j (broken_entry xs e ys split at frames before bad) = passed_unbroken sc.entries (firsts_and_entries tasks sc kept).1 xs e ys split bad
 
@@ -250,12 +251,12 @@ module _ (order : List ℕ) (tasks : List Task) (sc : Script) (few : length task
       let (vs, longer) = goes_on xs e ys xs' (e' ∷ ys') (sym split ∙ split') (omega arith) in before' xs e vs longer bad
 
   -- the first item that is wrong is turned away
-  pub broken_refused : (j : ℕ) → BrokenAt order tasks sc j → first_refusal (item_checks tasks sc) ≡ some j
+  pub broken_refused : (j : ℕ) → BrokenAt order tasks sc j → first_refusal (item_checks tasks sc) ≡ Some j
   broken_refused j bad = go (answer (first_refusal (item_checks tasks sc)))
     where
-      go : Answer (first_refusal (item_checks tasks sc)) → first_refusal (item_checks tasks sc) ≡ some j
+      go : Answer (first_refusal (item_checks tasks sc)) → first_refusal (item_checks tasks sc) ≡ Some j
       go (nothing e) = absurd (none_broken e j bad)
-      go (it_is k e) = e ∙ ap some (same (dec_lt j k) (dec_lt k j))
+      go (it_is k e) = e ∙ ap Some (same (dec_lt j k) (dec_lt k j))
         where
           same : Dec (j < k) → Dec (k < j) → k ≡ j
           same (yes h) d = absurd (no_sooner j k bad (item_refused k e) h)

@@ -1,8 +1,8 @@
 -- Rows of entries one behind another: the entry of a task at a tick, whose row an entry is of, and that the entries rise.
+use Rattle.std.specs.Prelude.{None}
 use mathlib.Core.List.Memᴰ
 use mathlib.Core.List.{List, [], ◌∷◌, ◌++◌, Memᴰ}
 use mathlib.Core.Logic.{◌⊎◌, inl, inr}
-use mathlib.Core.Option.{none}
 use mathlib.Core.Path.{◌≡◌, refl, sym, ◌∙◌}
 use Prim.Native.Nat.{ℕ, zero, suc, ◌+◌, ◌≤◌, ◌<◌}
 use native.Mathlib.Decide.{ℕ_discrete}
@@ -18,7 +18,7 @@ use Rattle.plays.proofs.Ledgers.{InOrder, entry_behind, entry_before}
 
 module _ (i t : ℕ) (row : ℕ → List Entry) where
   -- none where no row has one
-  pub turn_has_none : (a n : ℕ) → ((u : ℕ) → a ≤ u → u < a + n → entry_of (row u) i t ≡ none) → entry_of (in_turn row a n) i t ≡ none
+  pub turn_has_none : (a n : ℕ) → ((u : ℕ) → a ≤ u → u < a + n → entry_of (row u) i t ≡ None) → entry_of (in_turn row a n) i t ≡ None
   unfolding in_turn entry_of
   turn_has_none a zero h = refl
   turn_has_none a (suc n) h =
@@ -26,13 +26,13 @@ module _ (i t : ℕ) (row : ℕ → List Entry) where
       ∙ turn_has_none (suc a) n (λ u l k. h u (omega arith) (omega arith))
 
   -- that of the one row that may have one
-  pub turn_has : (a n j : ℕ) → a ≤ j → j < a + n → ((u : ℕ) → (u ≡ j → ⊥) → entry_of (row u) i t ≡ none)
+  pub turn_has : (a n j : ℕ) → a ≤ j → j < a + n → ((u : ℕ) → (u ≡ j → ⊥) → entry_of (row u) i t ≡ None)
       → entry_of (in_turn row a n) i t ≡ entry_of (row j) i t
   unfolding in_turn
-  turn_has a zero j h k others = let z : ⊥ = omega arith in absurd z
+  turn_has a zero j h k others = absurd (omega arith)
   turn_has a (suc n) j h k others = go (ℕ_discrete j a) (turn_has (suc a) n j)
     where
-      go : Dec (j ≡ a) → (suc a ≤ j → j < suc a + n → ((u : ℕ) → (u ≡ j → ⊥) → entry_of (row u) i t ≡ none) → entry_of (in_turn row (suc a) n) i t ≡ entry_of (row j) i t)
+      go : Dec (j ≡ a) → (suc a ≤ j → j < suc a + n → ((u : ℕ) → (u ≡ j → ⊥) → entry_of (row u) i t ≡ None) → entry_of (in_turn row (suc a) n) i t ≡ entry_of (row j) i t)
           → entry_of (row a ++ in_turn row (suc a) n) i t ≡ entry_of (row j) i t
       go (yes e) later =
           rw e (entry_before i t (row a) (in_turn row (suc a) n) (turn_has_none (suc a) n (λ u l m. others u (λ q. omega arith))))

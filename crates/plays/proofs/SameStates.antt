@@ -1,6 +1,6 @@
 -- Two states that are the same at the places of a set stay so under the same choices; two runs that choose the same.
+use Rattle.std.specs.Prelude.{None, Option, Some}
 use mathlib.Core.List.{List}
-use mathlib.Core.Option.{Option, none, some}
 use mathlib.Core.Path.{◌≡◌, refl, ap}
 use Prim.Native.Nat.{ℕ, zero, suc, ◌≤◌, ◌<◌}
 use native.Mathlib.Omega.{arith}
@@ -19,13 +19,13 @@ pub record SameState (n : ℕ) (s s' : State) : Type 0 where
   pub same_to_come : s.to_come ≡ s'.to_come
 
 -- the place picked is one of the set, since a stretch under way is a task's of the set
-pub picked_in : (set : List Task) (s : State) → (1 ≤ s.to_come → s.owner < length set) → (q : ℕ) → pick set s ≡ some q → q < length set
+pub picked_in : (set : List Task) (s : State) → (1 ≤ s.to_come → s.owner < length set) → (q : ℕ) → pick set s ≡ Some q → q < length set
 picked_in set s held q e = go (picked set s)
   where
     go : Picked set s → q < length set
     go (in_stretch m under_way at) = let same : s.owner ≡ q = cc in rw (← same) (held (omega arith))
     go (highest u free at l pend earlier) = let same : u ≡ q = cc in rw (← same) l
-    go (idle free at none_pending) = let z : ◌≡◌ {A = ℕ} 0 1 = cc in let z : ⊥ = omega arith in absurd z
+    go (idle free at none_pending) = let z : ◌≡◌ {A = ℕ} 0 1 = cc in absurd (omega arith)
 
 module _ {n : ℕ} {s s' : State} (same : SameState n s s') where
   pub same_release : (set : List Task) (t : ℕ) (i i' : Input) → ((q : ℕ) → q < n → i.release_of q ≡ i'.release_of q)
@@ -38,10 +38,10 @@ module _ {n : ℕ} {s s' : State} (same : SameState n s s') where
         same_to_come = same.same_to_come;
       }
 
-  same_tick : (o : Option ℕ) (new : ℕ) → ((q : ℕ) → o ≡ some q → q < n) → SameState n (tick o new s) (tick o new s')
+  same_tick : (o : Option ℕ) (new : ℕ) → ((q : ℕ) → o ≡ Some q → q < n) → SameState n (tick o new s) (tick o new s')
   unfolding tick
-  same_tick none new h = same
-  same_tick (some p) new h =
+  same_tick None new h = same
+  same_tick (Some p) new h =
       record {
         same_lanes = λ q l. ap (serve_lane (eqb q p)) (same.same_lanes q l);
         same_owner = refl;
@@ -55,12 +55,12 @@ same_pick set {s} {s'} same =
   where
     go : (m m' : ℕ) → m ≡ m' → first 0 (length set) (λ p. pending (s.lanes p)) ≡ first 0 (length set) (λ p. pending (s'.lanes p))
         → ◌≡◌ {A = Option ℕ}
-        (elim m [ zero ↦ first 0 (length set) (λ p. pending (s.lanes p)) | suc n ↦ some s.owner ])
-        (elim m' [ zero ↦ first 0 (length set) (λ p. pending (s'.lanes p)) | suc n ↦ some s'.owner ])
+        (elim m [ zero ↦ first 0 (length set) (λ p. pending (s.lanes p)) | suc n ↦ Some s.owner ])
+        (elim m' [ zero ↦ first 0 (length set) (λ p. pending (s'.lanes p)) | suc n ↦ Some s'.owner ])
     go zero zero q e = e
-    go (suc m) (suc m') q e = ap some same.same_owner
-    go zero (suc m') q e = let z : ⊥ = omega arith in absurd z
-    go (suc m) zero q e = let z : ⊥ = omega arith in absurd z
+    go (suc m) (suc m') q e = ap Some same.same_owner
+    go zero (suc m') q e = absurd (omega arith)
+    go (suc m) zero q e = absurd (omega arith)
 
 -- a tick with the same choices
 pub same_step : (set : List Task) (t : ℕ) {s s' : State} (i i' : Input) → SameState (length set) s s' → (1 ≤ s'.to_come → s'.owner < length set)

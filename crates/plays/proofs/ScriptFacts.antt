@@ -1,6 +1,6 @@
 -- A script of which no item is turned away, entry by entry: the entries before one, itself, and those behind it.
+use Rattle.std.specs.Prelude.{None, Some}
 use mathlib.Core.List.{List, [], ◌∷◌, ◌++◌, Memᴰ}
-use mathlib.Core.Option.{none, some}
 use mathlib.Core.Path.{◌≡◌, refl, sym, subst, ◌∙◌, ap}
 use Prim.Native.Nat.{ℕ, suc, ◌≤◌, ◌<◌}
 use native.Mathlib.Omega.{arith}
@@ -25,7 +25,7 @@ NoneAt t es = (d : Entry) → Memᴰ d es → d.tick ≡ t → ⊥
 
 module _ (es : List Entry) (j : ℕ) (i t : ℕ) where
   -- where none of the first j entries is at tick t, they have none of a task at that tick
-  pub none_yet : NoneAt t (take j es) → entry_of (take j es) i t ≡ none
+  pub none_yet : NoneAt t (take j es) → entry_of (take j es) i t ≡ None
   none_yet h = no_entry_of i t (take j es) (λ d m _ q. h d m q)
 
   -- where none of the others is at tick t, what the first j entries have at that tick is what all have
@@ -34,7 +34,7 @@ module _ (es : List Entry) (j : ℕ) (i t : ℕ) where
       ap (λ l. entry_of l i t) (sym (take-append-drop j es))
       ∙ entry_before i t (take j es) (drop j es) (no_entry_of i t (drop j es) (λ d m _ q. h d m q))
 
-module _ (tasks : List Task) (sc : Script) (kept : first_refusal (item_checks tasks sc) ≡ none) where
+module _ (tasks : List Task) (sc : Script) (kept : first_refusal (item_checks tasks sc) ≡ None) where
   -- each entry is of a task of the set
   pub member_in_set : (d : Entry) → Memᴰ d sc.entries → d.task < length tasks
   member_in_set d m =
@@ -59,11 +59,11 @@ module _ (tasks : List Task) (sc : Script) (kept : first_refusal (item_checks ta
     entry_in_set = member_in_set e (member_at sc.entries j in_row)
 
     -- the entries before it have none of its task at its tick
-    pub not_yet : entry_of (take j sc.entries) (get_or sc.entries j no_entry).task (get_or sc.entries j no_entry).tick ≡ none
+    pub not_yet : entry_of (take j sc.entries) (get_or sc.entries j no_entry).task (get_or sc.entries j no_entry).tick ≡ None
     not_yet = no_entry_of e.task e.tick before (λ d m p q. let z : ⊥ = omega (arith, own_before 0 before e behind cut_in_order d m p) in absurd z)
 
     -- with it that one is there
-    pub now_there : entry_of (take (suc j) sc.entries) (get_or sc.entries j no_entry).task (get_or sc.entries j no_entry).tick ≡ some (get_or sc.entries j no_entry)
+    pub now_there : entry_of (take (suc j) sc.entries) (get_or sc.entries j no_entry).task (get_or sc.entries j no_entry).tick ≡ Some (get_or sc.entries j no_entry)
     now_there =
         ap (λ l. entry_of l e.task e.tick) (take-suc sc.entries j no_entry in_row)
         ∙ entry_behind e.task e.tick before (e ∷ []) not_yet

@@ -1,9 +1,9 @@
 -- The lanes of a script's run: the tasks by place, what a release and a tick do to a lane, and what holds of each job with work left.
+use Rattle.std.specs.Prelude.{None, Option, Some}
 use mathlib.Core.Bool.{Bool}
 use mathlib.Core.List.Memᴰ
 use mathlib.Core.List.{List, [], map, Memᴰ}
 use mathlib.Core.Logic.{◌⊎◌, inl, inr}
-use mathlib.Core.Option.{Option, none, some}
 use mathlib.Core.Path.{◌≡◌, refl, sym, subst, ap, ◌∙◌}
 use Prim.Native.Nat.{ℕ, zero, suc, ◌+◌, ◌≤◌, ◌<◌}
 use native.Mathlib.Nat.{le_refl}
@@ -16,7 +16,7 @@ use Rattle.theory.proofs.Lanes.{release_mem, serve_lane_free, Unfinished, unfini
 use Rattle.theory.proofs.Steps.{lane_step}
 use Rattle.theory.proofs.Arrivals.{next_in}
 use Rattle.order.specs.Claims.{Permutes}
-use Rattle.order.proofs.Records.{any_default}
+use Rattle.std.proofs.lemmas.List.{get_or_default}
 use Rattle.analysis.specs.Times.{number_at, place_of}
 use Rattle.analysis.proofs.Numbering.{place_in, number_in, number_back}
 use Rattle.plays.specs.Script.{Script}
@@ -35,7 +35,7 @@ module _ (order : List ℕ) (tasks : List Task) where
   pub by_place_at : (p : ℕ) → p < length order → task_at (by_place order tasks) p ≡ task_at tasks (number_at order p)
   unfolding task_at number_at
   by_place_at p h =
-      any_default (map (task_at tasks) order) p _ (task_at tasks 0) (omega (arith, length-map order (task_at tasks)))
+      get_or_default (map (task_at tasks) order) p _ (task_at tasks 0) (omega (arith, length-map order (task_at tasks)))
       ∙ get_or-map (task_at tasks) order p 0
 
   module _ (permutes : Permutes (length tasks) order) where
@@ -68,7 +68,7 @@ pub record Known (order : List ℕ) (tasks : List Task) (sc : Script) (p t free 
   pub earlier : r < t
   pub frame_in : k < frame_count (task_at (by_place order tasks) p)
   pub spaced : r + (task_at (by_place order tasks) p).period ≤ free
-  pub entered : (w : ℕ) × (released_at order sc r p ≡ some w)
+  pub entered : (w : ℕ) × (released_at order sc r p ≡ Some w)
 
 module _ (order : List ℕ) (tasks : List Task) (sc : Script) where
   -- a lane with the releases of a tick seen is the lane before with its release
@@ -95,7 +95,7 @@ module _ (order : List ℕ) (tasks : List Task) (sc : Script) where
   -- a job in a lane with the release of tick t seen was there before, or is released at t
   pub seen_job : (t p : ℕ) {r k w : ℕ} → Memᴰ (job r k w) ((script_seen order tasks sc t).lanes p).jobs
       → Memᴰ (job r k w) ((script_state order tasks sc t).lanes p).jobs
-      ⊎ ((r ≡ t) × (k ≡ ((script_state order tasks sc t).lanes p).next) × (released_at order sc t p ≡ some w))
+      ⊎ ((r ≡ t) × (k ≡ ((script_state order tasks sc t).lanes p).next) × (released_at order sc t p ≡ Some w))
   seen_job t p {r} {k} {w} m =
       release_mem (task_at (by_place order tasks) p) t (released_at order sc t p) ((script_state order tasks sc t).lanes p)
       (subst (λ l. Memᴰ (job r k w) l.jobs) (seen_by_release t p) m)
@@ -106,8 +106,8 @@ module _ (order : List ℕ) (tasks : List Task) (sc : Script) where
   job_stays t p {r} {k} {w} m = rw (seen_by_release t p) (go (released_at order sc t p))
     where
       go : (o : Option ℕ) → Memᴰ (job r k w) (release_lane (task_at (by_place order tasks) p) t o ((script_state order tasks sc t).lanes p)).jobs
-      go none = m
-      go (some v) = Memᴰ.append_left _ m
+      go None = m
+      go (Some v) = Memᴰ.append_left _ m
 
   module _ (admitted : Admitted (by_place order tasks)) (legal : (n : ℕ) → Legal (by_place order tasks) (script_run order tasks sc n)) (p : ℕ) (in_order : p < length order) where
     in_set : p < length (by_place order tasks)
@@ -129,7 +129,7 @@ module _ (order : List ℕ) (tasks : List Task) (sc : Script) where
         (next_in (by_place order tasks) (script_run order tasks sc t) (legal t) p in_set t (le_refl t))
 
     -- a release is not before its time
-    pub released_apart : (t : ℕ) {w : ℕ} → released_at order sc t p ≡ some w → ((script_state order tasks sc t).lanes p).free_from ≤ t
+    pub released_apart : (t : ℕ) {w : ℕ} → released_at order sc t p ≡ Some w → ((script_state order tasks sc t).lanes p).free_from ≤ t
     unfolding script_run choice
     released_apart t {w} e =
         rw (← run_state order tasks sc (suc t) t) (((legal (suc t)).each_tick t (le_refl (suc t))).apart p w in_set e)
@@ -139,14 +139,14 @@ module _ (order : List ℕ) (tasks : List Task) (sc : Script) where
         → Unfinished (Known order tasks sc p (suc t) (release_lane (task_at (by_place order tasks) p) t o ((script_state order tasks sc t).lanes p)).free_from)
         (release_lane (task_at (by_place order tasks) p) t o ((script_state order tasks sc t).lanes p)).jobs
     unfolding release_lane
-    seen_known t before none e r k w m =
+    seen_known t before None e r k w m =
         let old = before r k w m in
         record { earlier = omega (arith, old.earlier); frame_in = old.frame_in; spaced = old.spaced; entered = old.entered }
-    seen_known t before (some v) e r k w m =
-        go (release_mem (task_at (by_place order tasks) p) t (some v) ((script_state order tasks sc t).lanes p) m)
+    seen_known t before (Some v) e r k w m =
+        go (release_mem (task_at (by_place order tasks) p) t (Some v) ((script_state order tasks sc t).lanes p) m)
       where
         go : Memᴰ (job r k (suc w)) ((script_state order tasks sc t).lanes p).jobs
-            ⊎ ((r ≡ t) × (k ≡ ((script_state order tasks sc t).lanes p).next) × (some v ≡ some (suc w)))
+            ⊎ ((r ≡ t) × (k ≡ ((script_state order tasks sc t).lanes p).next) × (Some v ≡ Some (suc w)))
             → Known order tasks sc p (suc t) (t + (task_at (by_place order tasks) p).period) r k
         go (inl m) =
             let old = before r k w m in

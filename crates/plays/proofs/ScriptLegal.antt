@@ -1,7 +1,8 @@
 -- The run of a script of which no item is turned away keeps the run rules.
+use Rattle.std.specs.Prelude.{None, Option, Some}
 use mathlib.Core.Bool.{Bool, true, false, cond}
 use mathlib.Core.List.{List, [], ◌∷◌, ◌++◌}
-use mathlib.Core.Option.{Option, none, some, none-ne-some, some-injective}
+use Rattle.theory.proofs.Options.{none_ne_some, some_injective}
 use mathlib.Core.Path.{◌≡◌, refl, sym, ◌∙◌, ap}
 use Prim.Native.Nat.{ℕ, zero, suc, ◌+◌, ◌≤◌, ◌<◌, zero-le}
 use native.Mathlib.Nat.{le_refl, le_trans, le_of_suc-le-suc, add-zero, zero-add}
@@ -27,20 +28,20 @@ use Rattle.plays.proofs.ScriptLanes.{by_place_length, by_place_at}
 use Rattle.plays.proofs.Ledgers.{InOrder, Sound, after_entries, entry_found, releases, ledger_is_lane, each_sound, checked_in_order}
 
 -- first frames of which none is turned away, of the tasks from task a on, are frames of their tasks
-pub firsts_fit : (tasks : List Task) (a : ℕ) (ks : List ℕ) → first_refusal (first_frame_checks tasks a ks) ≡ none
+pub firsts_fit : (tasks : List Task) (a : ℕ) (ks : List ℕ) → first_refusal (first_frame_checks tasks a ks) ≡ None
     → (i : ℕ) → i < length ks → get_or ks i 0 < frame_count (task_at tasks (a + i))
 unfolding first_frame_checks
-firsts_fit tasks a [] h i l = let z : ⊥ = omega arith in absurd z
+firsts_fit tasks a [] h i l = absurd (omega arith)
 firsts_fit tasks a (k ∷ ks) h zero l = rw (add-zero a) (ltb-true _ _ (not-false _ (passed _ (first_frame_checks tasks (suc a) ks) h).0))
 firsts_fit tasks a (k ∷ ks) h (suc i) l =
     let same : suc a + i ≡ a + suc i = omega arith in
     rw (← same) (firsts_fit tasks (suc a) ks (passed _ (first_frame_checks tasks (suc a) ks) h).1 i (le_of_suc-le-suc l))
 
 -- a release has its entry
-pub work_some : {o : Option Entry} {w : ℕ} → work_of o ≡ some w → (e : Entry) × (o ≡ some e) × (e.work ≡ w)
+pub work_some : {o : Option Entry} {w : ℕ} → work_of o ≡ Some w → (e : Entry) × (o ≡ Some e) × (e.work ≡ w)
 unfolding work_of
-work_some {o = none} {w} q = absurd (none-ne-some w q)
-work_some {o = some e} {w} q = (e, refl, some-injective e.work w q)
+work_some {o = None} {w} q = absurd (none_ne_some w q)
+work_some {o = Some e} {w} q = (e, refl, some_injective e.work w q)
 
 -- no stretch is longer than the lock that starts it
 stretch_by_le : (lock : ℕ) → stretch_by lock ≤ lock
@@ -58,17 +59,17 @@ module _ (order : List ℕ) (sc : Script) (s : State) where
   stretch_under_way o e = rw e
 
   -- nor with nobody
-  pub stretch_idle : {o : Option ℕ} → s.to_come ≡ 0 → o ≡ none → new_stretch order sc s o ≡ 0
+  pub stretch_idle : {o : Option ℕ} → s.to_come ≡ 0 → o ≡ None → new_stretch order sc s o ≡ 0
   unfolding new_stretch stretch_at
   stretch_idle e q = rw (e, q)
 
   -- and else one by the lock of the job that has the tick
-  pub stretch_starts : {o : Option ℕ} {p : ℕ} → s.to_come ≡ 0 → o ≡ some p
+  pub stretch_starts : {o : Option ℕ} {p : ℕ} → s.to_come ≡ 0 → o ≡ Some p
       → new_stretch order sc s o ≡ stretch_by (pending_lock sc (number_at order p) (s.lanes p).jobs)
   unfolding new_stretch stretch_at
   stretch_starts e q = rw (e, q)
 
-  longest_starts : (set : List Task) {o : Option ℕ} {p : ℕ} → s.to_come ≡ 0 → o ≡ some p → longest_stretch set s.to_come o ≡ (task_at set p).lock
+  longest_starts : (set : List Task) {o : Option ℕ} {p : ℕ} → s.to_come ≡ 0 → o ≡ Some p → longest_stretch set s.to_come o ≡ (task_at set p).lock
   unfolding longest_stretch
   longest_starts set e q = rw (e, q)
 
@@ -78,10 +79,10 @@ stretch_is : (order : List ℕ) (tasks : List Task) (sc : Script) (n t : ℕ)
 unfolding script_run choice script_seen release
 stretch_is order tasks sc n t = refl
 
-module _ (tasks : List Task) (sc : Script) (kept : first_refusal (item_checks tasks sc) ≡ none) where
+module _ (tasks : List Task) (sc : Script) (kept : first_refusal (item_checks tasks sc) ≡ None) where
   -- none of the first frames is turned away, and none of the entries
-  pub firsts_and_entries : (first_refusal (first_frame_checks tasks 0 sc.firsts) ≡ none)
-      × (first_refusal (entry_checks tasks (length sc.firsts) (first_ledger sc.firsts) sc.entries) ≡ none)
+  pub firsts_and_entries : (first_refusal (first_frame_checks tasks 0 sc.firsts) ≡ None)
+      × (first_refusal (entry_checks tasks (length sc.firsts) (first_ledger sc.firsts) sc.entries) ≡ None)
   unfolding item_checks
   firsts_and_entries = both_passed (first_frame_checks tasks 0 sc.firsts) _ kept
 
@@ -95,14 +96,14 @@ module _ (tasks : List Task) (sc : Script) (kept : first_refusal (item_checks ta
   entry_sound xs e ys split = each_sound tasks (length sc.firsts) (first_ledger sc.firsts) xs e ys (rw (← split) firsts_and_entries.1)
 
 module _ (order : List ℕ) (tasks : List Task) (sc : Script) (permutes : Permutes (length tasks) order)
-    (kept : first_refusal (item_checks tasks sc) ≡ none) where
+    (kept : first_refusal (item_checks tasks sc) ≡ None) where
   -- what is released at a tick may be released then
   record Kept (t p : ℕ) (e : Entry) : Type 0 where
     free : ((script_state order tasks sc t).lanes p).free_from ≤ t
     work : e.work ≤ frame (task_at tasks (number_at order p)) ((script_state order tasks sc t).lanes p).next
     lock : e.lock ≤ (task_at tasks (number_at order p)).lock
 
-  entry_kept : (t p : ℕ) (e : Entry) → p < length tasks → entry_of sc.entries (number_at order p) t ≡ some e → Kept t p e
+  entry_kept : (t p : ℕ) (e : Entry) → p < length tasks → entry_of sc.entries (number_at order p) t ≡ Some e → Kept t p e
   entry_kept t p e l f =
       let (xs, ys, split, own, at) = entry_found sc.entries (number_at order p) t e f in
       let s : Sound tasks (after_entries tasks (first_ledger sc.firsts) xs) e = entry_sound tasks sc kept xs e ys split in
@@ -117,8 +118,8 @@ module _ (order : List ℕ) (tasks : List Task) (sc : Script) (permutes : Permut
   -- no lock that the script gives a task is longer than its Q
   lock_kept : (p r : ℕ) → p < length tasks → (o : Option Entry) → entry_of sc.entries (number_at order p) r ≡ o → lock_of o ≤ (task_at tasks (number_at order p)).lock
   unfolding lock_of
-  lock_kept p r l none f = zero-le
-  lock_kept p r l (some e) f = (entry_kept r p e l f).lock
+  lock_kept p r l None f = zero-le
+  lock_kept p r l (Some e) f = (entry_kept r p e l f).lock
 
   pending_kept : (p : ℕ) → p < length tasks → (js : List Job) → pending_lock sc (number_at order p) js ≤ (task_at tasks (number_at order p)).lock
   unfolding pending_lock
@@ -141,7 +142,7 @@ module _ (order : List ℕ) (tasks : List Task) (sc : Script) (permutes : Permut
       rw (stretch_starts order sc s e q, longest_starts order sc s (by_place order tasks) e q, task_here p here)
       (le_trans (stretch_by_le _) (pending_kept p here (s.lanes p).jobs))
 
-  released_kept : (n t p w : ℕ) → p < length (by_place order tasks) → ((script_run order tasks sc n).input t).release_of p ≡ some w → (e : Entry) × Kept t p e × (e.work ≡ w)
+  released_kept : (n t p w : ℕ) → p < length (by_place order tasks) → ((script_run order tasks sc n).input t).release_of p ≡ Some w → (e : Entry) × Kept t p e × (e.work ≡ w)
   released_kept n t p w l r =
       let (e, f, same) = work_some (sym (releases order tasks sc n t p) ∙ r) in
       (e, entry_kept t p e (in_set p l) f, same)
@@ -165,6 +166,6 @@ module _ (order : List ℕ) (tasks : List Task) (sc : Script) (permutes : Permut
 
 module _ (order : List ℕ) (tasks : List Task) (sc : Script) (permutes : Permutes (length tasks) order) (as_many : length sc.firsts ≡ length tasks) where
   -- a script of which no item is turned away has a run of the set
-  pub script_legal : first_refusal (item_checks tasks sc) ≡ none → (n : ℕ) → Legal (by_place order tasks) (script_run order tasks sc n)
+  pub script_legal : first_refusal (item_checks tasks sc) ≡ None → (n : ℕ) → Legal (by_place order tasks) (script_run order tasks sc n)
   script_legal kept n =
       record { first_frames = first_kept order tasks sc permutes kept as_many n; each_tick = λ t _. tick_kept order tasks sc permutes kept n t }

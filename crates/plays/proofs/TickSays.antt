@@ -1,6 +1,6 @@
 -- What a byte of a trace says, in the words of the theory: the task that the run gives the tick to, and whether in a locked stretch.
+use Rattle.std.specs.Prelude.{None, Option, Some}
 use mathlib.Core.List.{List}
-use mathlib.Core.Option.{Option, none, some}
 use mathlib.Core.Path.{◌≡◌, refl, ap, ◌∙◌}
 use Prim.Native.Nat.{ℕ, zero, suc, ◌+◌}
 use native.Mathlib.Nat.{add-zero}
@@ -34,13 +34,13 @@ module _ (order : List ℕ) (tasks : List Task) (sc : Script) (n u : ℕ) where
   same_stretch = rw (run_seen order tasks sc n u)
 
   -- no stretch with an idle tick
-  none_idle : at ≡ none → length_now ≡ 0
+  none_idle : at ≡ None → length_now ≡ 0
   unfolding new_stretch stretch_at stretch_now
   none_idle e = go (picked (by_place order tasks) seen)
     where
       go : Picked (by_place order tasks) seen → length_now ≡ 0
-      go (in_stretch m under_way there) = let z : ◌≡◌ {A = ℕ} 0 1 = cc in let z : ⊥ = omega arith in absurd z
-      go (highest q free there l pend earlier) = let z : ◌≡◌ {A = ℕ} 0 1 = cc in let z : ⊥ = omega arith in absurd z
+      go (in_stretch m under_way there) = let z : ◌≡◌ {A = ℕ} 0 1 = cc in absurd (omega arith)
+      go (highest q free there l pend earlier) = let z : ◌≡◌ {A = ℕ} 0 1 = cc in absurd (omega arith)
       go (idle free there none_pending) = rw (e, free)
 
   pub shown_says : TickSays order tasks sc n u (shown order tasks sc u)
@@ -48,7 +48,7 @@ module _ (order : List ℕ) (tasks : List Task) (sc : Script) (n u : ℕ) where
   shown_says = go at length_now refl refl
     where
       go : (o : Option ℕ) (m : ℕ) → at ≡ o → length_now ≡ m → TickSays order tasks sc n u (shown_task order o + shown_stretch m)
-      go none zero a l = is_idle (same_place ∙ a)
-      go none (suc m) a l = let z : ⊥ = omega (arith, none_idle a) in absurd z
-      go (some p) zero a l = rw (add-zero (number_at order p)) (unlocked p (same_place ∙ a) (same_stretch ∙ l))
-      go (some p) (suc m) a l = locked p m (same_place ∙ a) (same_stretch ∙ l)
+      go None zero a l = is_idle (same_place ∙ a)
+      go None (suc m) a l = let z : ⊥ = omega (arith, none_idle a) in absurd z
+      go (Some p) zero a l = rw (add-zero (number_at order p)) (unlocked p (same_place ∙ a) (same_stretch ∙ l))
+      go (Some p) (suc m) a l = locked p m (same_place ∙ a) (same_stretch ∙ l)

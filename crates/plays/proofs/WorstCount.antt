@@ -1,7 +1,7 @@
 -- The worst script of a missed set has few entries: as many as there are ticks up to the deadline, and one more for each task, at the most.
+use Rattle.std.specs.Prelude.{None, Option, Some}
 use mathlib.Core.Bool.{cond, true}
 use mathlib.Core.List.{List}
-use mathlib.Core.Option.{Option, none, some}
 use mathlib.Core.Path.{◌≡◌, refl, sym, ap, ◌∙◌}
 use Prim.Native.Nat.{ℕ, zero, suc, ◌+◌, ◌-◌, ◌≤◌, ◌<◌, zero-le}
 use native.Mathlib.Decide.{ℕ_discrete}
@@ -34,7 +34,7 @@ without j g q = cond (eqb q j) 0 (g q)
 
 sum_without : (m j : ℕ) (g : ℕ → ℕ) → j < m → sum_below m g ≡ sum_below m (without j g) + g j
 unfolding sum_below without
-sum_without zero j g h = let z : ⊥ = omega arith in absurd z
+sum_without zero j g h = absurd (omega arith)
 sum_without (suc m) j g h = go (ℕ_discrete m j) (sum_without m j g)
   where
     go : Dec (m ≡ j) → (j < m → sum_below m g ≡ sum_below m (without j g) + g j) → sum_below m g + g m ≡ sum_below m (without j g) + without j g m + g j
@@ -61,8 +61,8 @@ sum_places (suc n) m place inside apart g =
 
 one_entry : (i t l : ℕ) (o : Option ℕ) → length (entry_row i t l o) ≤ 1
 unfolding entry_row
-one_entry i t l none = omega arith
-one_entry i t l (some w) = omega arith
+one_entry i t l None = omega arith
+one_entry i t l (Some w) = omega arith
 
 module _ (i l k : ℕ) (t : Task) where
   rows : Role → ℕ → List Entry

@@ -1,8 +1,8 @@
 -- The entries of the worst script: which task has one at which tick, what each of them says, and that they stand in order.
+use Rattle.std.specs.Prelude.{None, Option, Some}
 use mathlib.Core.Bool.{Bool, true, false, cond, ◌&&◌}
 use mathlib.Core.List.Memᴰ
 use mathlib.Core.List.{List, Memᴰ}
-use mathlib.Core.Option.{Option, none, some}
 use mathlib.Core.Path.{◌≡◌, refl, sym, ◌∙◌, ap}
 use Prim.Native.Nat.{ℕ, suc, ◌+◌, ◌*◌, ◌≤◌, ◌<◌}
 use native.Mathlib.Nat.{le_refl}
@@ -26,41 +26,41 @@ use Rattle.plays.proofs.Rows.{turn_has_none, turn_has, in_some_row, Rises, rises
 
 -- the one entry of a row, if it has one
 unfoldable pub row_entry : ℕ → ℕ → ℕ → Option ℕ → Option Entry
-row_entry i t lock none = none
-row_entry i t lock (some w) = some (record { task = i; tick = t; work = w; lock = lock })
+row_entry i t lock None = None
+row_entry i t lock (Some w) = Some (record { task = i; tick = t; work = w; lock = lock })
 
 row_has : (i t lock : ℕ) (o : Option ℕ) → entry_of (entry_row i t lock o) i t ≡ row_entry i t lock o
 unfolding entry_of entry_row row_entry
-row_has i t lock none = refl
-row_has i t lock (some w) = rw (eq-eqb i i refl, eq-eqb t t refl)
+row_has i t lock None = refl
+row_has i t lock (Some w) = rw (eq-eqb i i refl, eq-eqb t t refl)
 
 -- a row of another task has none
-row_of_other : (i j u t lock : ℕ) (o : Option ℕ) → (j ≡ i → ⊥) → entry_of (entry_row j u lock o) i t ≡ none
+row_of_other : (i j u t lock : ℕ) (o : Option ℕ) → (j ≡ i → ⊥) → entry_of (entry_row j u lock o) i t ≡ None
 unfolding entry_of entry_row
-row_of_other i j u t lock none ne = refl
-row_of_other i j u t lock (some w) ne = rw (ne_eqb j i ne)
+row_of_other i j u t lock None ne = refl
+row_of_other i j u t lock (Some w) ne = rw (ne_eqb j i ne)
 
 -- nor one of another tick
-row_of_other_tick : (i j u t lock : ℕ) (o : Option ℕ) → (u ≡ t → ⊥) → entry_of (entry_row j u lock o) i t ≡ none
+row_of_other_tick : (i j u t lock : ℕ) (o : Option ℕ) → (u ≡ t → ⊥) → entry_of (entry_row j u lock o) i t ≡ None
 unfolding entry_of entry_row
-row_of_other_tick i j u t lock none ne = refl
-row_of_other_tick i j u t lock (some w) ne = rw (ne_eqb u t ne) (go (eqb j i))
+row_of_other_tick i j u t lock None ne = refl
+row_of_other_tick i j u t lock (Some w) ne = rw (ne_eqb u t ne) (go (eqb j i))
   where
-    go : (b : Bool) → cond {A = Option Entry} (b && false) (some (record { task = j; tick = u; work = w; lock = lock })) none ≡ none
+    go : (b : Bool) → cond {A = Option Entry} (b && false) (Some (record { task = j; tick = u; work = w; lock = lock })) None ≡ None
     go true = refl
     go false = refl
 
-row_is : {i t lock : ℕ} {o : Option ℕ} {e : Entry} → Memᴰ e (entry_row i t lock o) → (e.task ≡ i) × (e.tick ≡ t) × (e.lock ≡ lock) × (o ≡ some e.work)
+row_is : {i t lock : ℕ} {o : Option ℕ} {e : Entry} → Memᴰ e (entry_row i t lock o) → (e.task ≡ i) × (e.tick ≡ t) × (e.lock ≡ lock) × (o ≡ Some e.work)
 unfolding entry_row
-row_is {o = none} m = absurd (Memᴰ.not-nil m)
-row_is {i} {t} {lock} {o = some w} {e} m =
+row_is {o = None} m = absurd (Memᴰ.not-nil m)
+row_is {i} {t} {lock} {o = Some w} {e} m =
     let same : e ≡ record { task = i; tick = t; work = w; lock = lock } = Memᴰ.eq_of_singleton m in
-    (ap (λ d. d.task) same, ap (λ d. d.tick) same, ap (λ d. d.lock) same, ap (λ d. some d.work) (sym same))
+    (ap (λ d. d.task) same, ap (λ d. d.tick) same, ap (λ d. d.lock) same, ap (λ d. Some d.work) (sym same))
 
 row_rises : (i t lock : ℕ) (o : Option ℕ) → i < most_tasks → Rises (t * most_tasks + i) (t * most_tasks + suc i) (entry_row i t lock o)
 unfolding entry_row standing
-row_rises i t lock none h = omega arith
-row_rises i t lock (some w) h = (le_refl _, omega arith)
+row_rises i t lock None h = omega arith
+row_rises i t lock (Some w) h = (le_refl _, omega arith)
 
 -- ---- the worst script
 
@@ -94,7 +94,7 @@ module _ (order : List ℕ) (tasks : List Task) (p k : ℕ) where
       turn_has i t (worst_row order tasks p k t) 0 (length tasks) i (omega arith) (omega arith) (λ u ne. row_of_other i u t t _ _ ne)
       ∙ row_has i t (lock_of_task i) (release_of_task i t)
 
-  other_tick : (i t u : ℕ) → (u ≡ t → ⊥) → entry_of (tick_rows u) i t ≡ none
+  other_tick : (i t u : ℕ) → (u ≡ t → ⊥) → entry_of (tick_rows u) i t ≡ None
   unfolding worst_row
   other_tick i t u ne = turn_has_none i t (worst_row order tasks p k u) 0 (length tasks) (λ j _ _. row_of_other_tick i j u t _ _ ne)
 
@@ -106,7 +106,7 @@ module _ (order : List ℕ) (tasks : List Task) (p k : ℕ) where
 
   -- After that there is none.
   pub worst_entry_none : (i t : ℕ) → suc (deadline_of (task_at (by_place order tasks) p) k) ≤ t
-      → entry_of (worst_script order tasks p k).entries i t ≡ none
+      → entry_of (worst_script order tasks p k).entries i t ≡ None
   unfolding worst_script
   worst_entry_none i t h = turn_has_none i t tick_rows 0 (suc D) (λ u _ l. other_tick i t u (λ e. omega arith))
 
@@ -115,7 +115,7 @@ module _ (order : List ℕ) (tasks : List Task) (p k : ℕ) where
     pub of_task : e.task < length tasks
     pub by_deadline : e.tick < suc (deadline_of (task_at (by_place order tasks) p) k)
     pub with_lock : e.lock ≡ lock_of_task e.task
-    pub with_work : release_of_task e.task e.tick ≡ some e.work
+    pub with_work : release_of_task e.task e.tick ≡ Some e.work
 
   -- Each entry is one of those.
   pub worst_entry_is : (e : Entry) → Memᴰ e (worst_script order tasks p k).entries → WorstEntry e
@@ -125,7 +125,7 @@ module _ (order : List ℕ) (tasks : List Task) (p k : ℕ) where
       let (i, _, i_in, in_row) = in_some_row (worst_row order tasks p k t) 0 (length tasks) in_tick in
       go i t (omega arith) (omega arith) (row_is in_row)
     where
-      go : (i t : ℕ) → i < length tasks → t < suc D → (e.task ≡ i) × (e.tick ≡ t) × (e.lock ≡ lock_of_task i) × (release_of_task i t ≡ some e.work) → WorstEntry e
+      go : (i t : ℕ) → i < length tasks → t < suc D → (e.task ≡ i) × (e.tick ≡ t) × (e.lock ≡ lock_of_task i) × (release_of_task i t ≡ Some e.work) → WorstEntry e
       go i t i_in t_in (task_is, tick_is, lock_is, work_is) =
           record { of_task = rw task_is i_in; by_deadline = rw tick_is t_in; with_lock = rw task_is lock_is; with_work = rw (task_is, tick_is) work_is }
 

@@ -1,6 +1,7 @@
 -- Lanes of the worst run: the blocker's one job runs without a break, and an absent task has none.
+use Rattle.std.specs.Prelude.{None, Some}
 use mathlib.Core.List.{List, [], ◌∷◌}
-use mathlib.Core.Option.{none, some, none-ne-some}
+use Rattle.theory.proofs.Options.{none_ne_some}
 use mathlib.Core.Path.{◌≡◌, refl, sym, ◌∙◌, ap}
 use Prim.Native.Nat.{ℕ, zero, suc, pred, ◌-◌, ◌≤◌, ◌<◌}
 use native.Mathlib.Nat.{sub-suc, sub-zero}
@@ -33,7 +34,7 @@ module _ (b f : ℕ) (s : State) where
   left_oldest {left} e = ap oldest_left e ∙ oldest_one 0 f left
 
   -- a tick in its stretch, or the tick that starts it
-  runs_served : (left new : ℕ) → (s.lanes b).jobs ≡ job 0 f left ∷ [] → stretch_now s.to_come new ≡ left → RunsOn b f (pred left) (tick (some b) new s)
+  runs_served : (left new : ℕ) → (s.lanes b).jobs ≡ job 0 f left ∷ [] → stretch_now s.to_come new ≡ left → RunsOn b f (pred left) (tick (Some b) new s)
   runs_served left new e long =
       record {
         one_left = tick_served b new s ∙ ap serve e ∙ serve_job 0 f left;
@@ -49,11 +50,11 @@ module _ (b f : ℕ) (s : State) where
       (record {
         one_left = ap (λ l. l.jobs) (tick_others u 0 s b (λ same. omega (arith, left_oldest r.one_left, ap (oldest s) same))) ∙ r.one_left;
         rest_to_come = tick_to_come u 0 s ∙ rw (e, now_starts 0) (stretch_none (pred (oldest s u)));
-        is_owner = λ h. let z : ⊥ = omega arith in absurd z;
+        is_owner = λ h. absurd (omega arith);
       })
   runs_on set zero r (idle e q none_pending) = rw (tick_idle 0 s q) r
   runs_on set (suc left) r (in_stretch m e q) =
-      rw (q ∙ ap some (r.is_owner (omega arith))) (runs_served (suc left) 0 r.one_left (rw r.rest_to_come (now_under_way left)))
+      rw (q ∙ ap Some (r.is_owner (omega arith))) (runs_served (suc left) 0 r.one_left (rw r.rest_to_come (now_under_way left)))
   runs_on set (suc left) r (highest u e q l pend earlier) = let z : ⊥ = omega (arith, r.rest_to_come) in absurd z
   runs_on set (suc left) r (idle e q none_pending) = let z : ⊥ = omega (arith, r.rest_to_come) in absurd z
 
@@ -82,8 +83,8 @@ module _ (set : List Task) (admitted : Admitted set) (p : ℕ) (in_set : p < len
 
   -- ---- the blocker
 
-  module _ (b : ℕ) (is_b : blocker set p ≡ some b) where
-    blocker_later : (t : ℕ) → (run.input (suc t)).release_of b ≡ none
+  module _ (b : ℕ) (is_b : blocker set p ≡ Some b) where
+    blocker_later : (t : ℕ) → (run.input (suc t)).release_of b ≡ None
     blocker_later t = release_blocker set p k b (suc t) (role_blocks set p is_b) ∙ once_else 0 (task_at set b).lock (suc t) (λ z. omega arith)
 
     seen_runs : (t : ℕ) {left : ℕ} → RunsOn b (run.first_frame b) left (state_at set run (suc t)) → RunsOn b (run.first_frame b) left (seen_at set run (suc t))
@@ -102,10 +103,10 @@ module _ (set : List Task) (admitted : Admitted set) (p : ℕ) (in_set : p < len
         go : FirstTick set p k → RunsOn b (run.first_frame b) (pred (task_at set b).lock) (tick (pick set (seen_at set run 0)) (run.input 0).stretch (seen_at set run 0))
         go (blocked c is_c at) =
             let same : c ≡ b = cc in
-            rw (at ∙ ap some same, blocker_stretch set p k is_b)
+            rw (at ∙ ap Some same, blocker_stretch set p k is_b)
             (runs_served b _ (seen_at set run 0) (task_at set b).lock (task_at set b).lock (blocker_lane set p k is_b)
             (rw (none_under_way set p k) (now_starts (task_at set b).lock)))
-        go (unblocked no_b at) = absurd (none-ne-some b (sym no_b ∙ is_b))
+        go (unblocked no_b at) = absurd (none_ne_some b (sym no_b ∙ is_b))
     blocker_runs (suc t) =
         rw (later_step set admitted p in_set k k_in t, sub-suc (task_at set b).lock (suc t))
         (runs_on b _ (seen_at set run (suc t)) set ((task_at set b).lock - suc t) (seen_runs t (blocker_runs t)) (picked set (seen_at set run (suc t))))

@@ -1,9 +1,9 @@
 -- The play of the worst script of a frame without a response time ends with the miss of that frame's job, and no task misses before or beside it.
+use Rattle.std.specs.Prelude.{None, Option, Some, unwrap_or}
 use mathlib.Core.Bool.{true, false}
 use mathlib.Core.List.Memᴰ
 use mathlib.Core.List.{List, [], ◌∷◌, Memᴰ}
 use mathlib.Core.Logic.{◌⊎◌, inl, inr}
-use mathlib.Core.Option.{Option, none, some, get_or}
 use mathlib.Core.Path.{◌≡◌, refl, sym, ◌∙◌, ap, subst}
 use Prim.Native.Nat.{ℕ, zero, suc, ◌+◌, ◌*◌, ◌-◌, ◌≤◌, ◌<◌}
 use native.Mathlib.Nat.{le_refl}
@@ -75,7 +75,7 @@ module _ (set : List Task) (admitted : Admitted set) (p : ℕ) (in_set : p < len
   higher_not_due t q h l pass (r, f, w, m, due) =
       omega (arith, unfinished_in_time set admitted q l pass worst (worst_legal set admitted p in_set k k_in) r f w t h m)
 
-  blocker_first_frame : {b : ℕ} → blocker set p ≡ some b → worst.first_frame b ≡ largest_frame (task_at set b)
+  blocker_first_frame : {b : ℕ} → blocker set p ≡ Some b → worst.first_frame b ≡ largest_frame (task_at set b)
   unfolding worst_run worst_first
   blocker_first_frame {b} is_b = rw (role_blocks set p is_b)
 
@@ -86,7 +86,7 @@ module _ (set : List Task) (admitted : Admitted set) (p : ℕ) (in_set : p < len
       omega (arith, task.lock_rule, i.largest_time, task.well_formed.frame_in_deadline (largest_frame (task_at set b)) i.largest_in)
 
   -- nor has the blocker: its job is complete after Q ticks, and its deadline is no less than its largest frame
-  blocker_not_due : (t b : ℕ) → b < length set → blocker set p ≡ some b → DueAt (task_at set b) t (jobs t b) → ⊥
+  blocker_not_due : (t b : ℕ) → b < length set → blocker set p ≡ Some b → DueAt (task_at set b) t (jobs t b) → ⊥
   blocker_not_due zero b l is_b due = none_due (task_at set b) 0 (nothing_before set p k b) due
   blocker_not_due (suc t) b l is_b due =
       let (at, left) = one_due (task_at set b) (suc t) (blocker_runs set admitted p in_set k k_in b is_b t).one_left due in
@@ -115,7 +115,7 @@ module _ (set : List Task) (admitted : Admitted set) (p : ℕ) (in_set : p < len
 
   -- ---- without a response time
 
-  module _ (without : response_of set p k ≡ none) where
+  module _ (without : response_of set p k ≡ None) where
     own_left : (t : ℕ) → suc t ≡ D → (w : ℕ) × Memᴰ (job 1 k (suc w)) (jobs (suc (suc t)) p)
     unfolding Misses TakesLonger
     own_left t e = go (worst_misses set admitted p in_set k k_in without)
@@ -124,7 +124,7 @@ module _ (set : List Task) (admitted : Admitted set) (p : ℕ) (in_set : p < len
         now = omega arith
 
         go : (left : ℕ) × (1 ≤ left) × Left set worst p 1 k (1 + D) left → (w : ℕ) × Memᴰ (job 1 k (suc w)) (jobs (suc (suc t)) p)
-        go (zero, some_left, l) = let z : ⊥ = omega arith in absurd z
+        go (zero, some_left, l) = absurd (omega arith)
         go (suc w, some_left, l) =
             (w, subst (λ x. Memᴰ (job 1 k (suc w)) x.jobs) (ap (λ u. (seen_at set worst u).lanes p) now ∙ own_later set admitted p in_set k k_in t) l.stands)
 
@@ -148,7 +148,7 @@ module _ (set : List Task) (admitted : Admitted set) (p : ℕ) (in_set : p < len
 
     -- It is pending from its release on.
     own_busy : (t : ℕ) → 1 ≤ t → t ≤ deadline_of (task_at set p) k → 1 ≤ total ((seen_at set (worst_run set p k) t).lanes p).jobs
-    own_busy zero h l = let z : ⊥ = omega arith in absurd z
+    own_busy zero h l = absurd (omega arith)
     own_busy (suc t) h l = busy_from (D - suc t) t (omega arith)
 
 -- ---- in the play of the worst script
@@ -199,12 +199,12 @@ module _ (order : List ℕ) (tasks : List Task) (permutes : Permutes (length tas
         (let (r, f, w, m, due) = own_due set admitted p there k k_in first_without.without in job_misses (task_at set p) (suc last) _ m due)
 
     -- before the frame's job is due no task misses
-    no_misser : (t : ℕ) → t < suc last → misser order tasks sc t ≡ none
+    no_misser : (t : ℕ) → t < suc last → misser order tasks sc t ≡ None
     unfolding misser
     no_misser t h = first_is_none 0 (length tasks) (task_misses order tasks sc t) (λ i _ l. others_miss_not t i (omega arith) (omega arith) (λ _ now. omega arith))
 
     -- then its task does, and no other
-    own_misser : misser order tasks sc (suc last) ≡ some (number_at order p)
+    own_misser : misser order tasks sc (suc last) ≡ Some (number_at order p)
     unfolding misser
     own_misser =
         first_is 0 (length tasks) (task_misses order tasks sc (suc last))
@@ -218,7 +218,7 @@ module _ (order : List ℕ) (tasks : List Task) (permutes : Permutes (length tas
     -- until then its job is to be released, or pending
     undone : (t : ℕ) → t < suc last → all_done order tasks sc t ≡ false
     undone zero h =
-        let now : released_at order sc 1 p ≡ some (frame (task_at set p) k) =
+        let now : released_at order sc 1 p ≡ Some (frame (task_at set p) k) =
         released_same order tasks permutes admitted p in_set k k_in 1 p (omega (arith, some_deadline set admitted p there k k_in)) there
         ∙ release_own set p k 1
         ∙ once_at 1 (frame (task_at set p) k)
@@ -237,11 +237,11 @@ module _ (order : List ℕ) (tasks : List Task) (permutes : Permutes (length tas
     -- The play of the worst script of the first frame without a response time, of the first task that does not pass, ends at moment 1 + D, when
     -- that frame's job, released at tick 1, has reached its deadline D; and it is its task that misses then.
     pub worst_play : (end_of_play order tasks (worst_script order tasks p k) ≡ suc (deadline_of (task_at (by_place order tasks) p) k))
-        × (misser order tasks (worst_script order tasks p k) (suc (deadline_of (task_at (by_place order tasks) p) k)) ≡ some (number_at order p))
+        × (misser order tasks (worst_script order tasks p k) (suc (deadline_of (task_at (by_place order tasks) p) k)) ≡ Some (number_at order p))
     unfolding end_of_play
-    worst_play = (ap (λ o. get_or o 0) ends, own_misser)
+    worst_play = (ap (λ o. unwrap_or o 0) ends, own_misser)
       where
-        ends : first 0 (suc (2 * greatest_time)) (over order tasks sc) ≡ some (suc last)
+        ends : first 0 (suc (2 * greatest_time)) (over order tasks sc) ≡ Some (suc last)
         ends =
             first_is 0 (suc (2 * greatest_time)) (over order tasks sc)
             (record {

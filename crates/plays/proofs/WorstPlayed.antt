@@ -1,6 +1,6 @@
 -- The run of the worst script is the worst run.
+use Rattle.std.specs.Prelude.{None, Option, Some}
 use mathlib.Core.List.{List, [], ◌∷◌}
-use mathlib.Core.Option.{Option, none, some}
 use mathlib.Core.Path.{◌≡◌, refl, sym, ◌∙◌, ap}
 use Prim.Native.Nat.{ℕ, zero, suc, ◌+◌, ◌≤◌, ◌<◌}
 use native.Mathlib.Decide.{dec_lt}
@@ -34,19 +34,19 @@ use Rattle.plays.proofs.WorstLanes.{blocker_pends}
 
 row_work : (i t lock : ℕ) (o : Option ℕ) → work_of (row_entry i t lock o) ≡ o
 unfolding work_of row_entry
-row_work i t lock none = refl
-row_work i t lock (some w) = refl
+row_work i t lock None = refl
+row_work i t lock (Some w) = refl
 
-row_lock : (i t lock w : ℕ) → lock_of (row_entry i t lock (some w)) ≡ lock
+row_lock : (i t lock w : ℕ) → lock_of (row_entry i t lock (Some w)) ≡ lock
 unfolding lock_of row_entry
 row_lock i t lock w = refl
 
 row_no_lock : (i t : ℕ) (o : Option ℕ) → lock_of (row_entry i t 0 o) ≡ 0
 unfolding lock_of row_entry
-row_no_lock i t none = refl
-row_no_lock i t (some w) = refl
+row_no_lock i t None = refl
+row_no_lock i t (Some w) = refl
 
-no_entry_lock : lock_of none ≡ 0
+no_entry_lock : lock_of None ≡ 0
 unfolding lock_of
 no_entry_lock = refl
 
@@ -59,7 +59,7 @@ no_pending_lock sc i h (job r f (suc w) ∷ js) = h r
 
 one_pending_lock : (sc : Script) (i r f w : ℕ) → 1 ≤ w → pending_lock sc i (job r f w ∷ []) ≡ lock_of (entry_of sc.entries i r)
 unfolding pending_lock
-one_pending_lock sc i r f zero h = let z : ⊥ = omega arith in absurd z
+one_pending_lock sc i r f zero h = absurd (omega arith)
 one_pending_lock sc i r f (suc w) h = refl
 
 stretch_of : (lock : ℕ) → 2 ≤ lock → stretch_by lock ≡ lock
@@ -68,13 +68,13 @@ stretch_of lock h = rw (le-leb 2 lock h)
 
 module _ (order : List ℕ) (sc : Script) where
   -- the stretch that a script starts depends on the lane of the place picked alone
-  same_stretch : {n : ℕ} {s s' : State} → SameState n s s' → (o : Option ℕ) → ((q : ℕ) → o ≡ some q → q < n) → new_stretch order sc s o ≡ new_stretch order sc s' o
+  same_stretch : {n : ℕ} {s s' : State} → SameState n s s' → (o : Option ℕ) → ((q : ℕ) → o ≡ Some q → q < n) → new_stretch order sc s o ≡ new_stretch order sc s' o
   same_stretch {n} {s} {s'} same o h = go s'.to_come refl o h
     where
-      go : (m : ℕ) → s'.to_come ≡ m → (o : Option ℕ) → ((q : ℕ) → o ≡ some q → q < n) → new_stretch order sc s o ≡ new_stretch order sc s' o
+      go : (m : ℕ) → s'.to_come ≡ m → (o : Option ℕ) → ((q : ℕ) → o ≡ Some q → q < n) → new_stretch order sc s o ≡ new_stretch order sc s' o
       go (suc m) e o h = stretch_under_way order sc s o (same.same_to_come ∙ e) ∙ sym (stretch_under_way order sc s' o e)
-      go zero e none h = stretch_idle order sc s (same.same_to_come ∙ e) refl ∙ sym (stretch_idle order sc s' e refl)
-      go zero e (some q) h =
+      go zero e None h = stretch_idle order sc s (same.same_to_come ∙ e) refl ∙ sym (stretch_idle order sc s' e refl)
+      go zero e (Some q) h =
           stretch_starts order sc s (same.same_to_come ∙ e) refl
           ∙ ap (λ l. stretch_by (pending_lock sc (number_at order q) l.jobs)) (same.same_lanes q (h q refl))
           ∙ sym (stretch_starts order sc s' e refl)
@@ -87,7 +87,7 @@ place_of_number order tasks permutes i h = omega (arith, place_found order tasks
 firsts_at : (order : List ℕ) (tasks : List Task) (p k a n i : ℕ) → i < n
     → get_or (worst_firsts order tasks p k a n) i 0 ≡ worst_first (task_at tasks (a + i)) k (role_of_task order tasks p k (a + i))
 unfolding worst_firsts
-firsts_at order tasks p k a zero i h = let z : ⊥ = omega arith in absurd z
+firsts_at order tasks p k a zero i h = absurd (omega arith)
 firsts_at order tasks p k a (suc n) zero h = rw (add-zero a)
 firsts_at order tasks p k a (suc n) (suc i) h = rw (add-suc a i, ← suc-add a i) (firsts_at order tasks p k (suc a) n i (omega arith))
 
@@ -155,11 +155,11 @@ module _ (order : List ℕ) (tasks : List Task) (permutes : Permutes (length tas
       go (no l) = ap lock_of (worst_entry_none order tasks p k (number_at order q) r (omega arith)) ∙ no_entry_lock
 
   -- the blocker's has Q
-  blocker_lock : {b : ℕ} → blocker set p ≡ some b → lock_of (entry_of sc.entries (number_at order b) 0) ≡ (task_at set b).lock
+  blocker_lock : {b : ℕ} → blocker set p ≡ Some b → lock_of (entry_of sc.entries (number_at order b) 0) ≡ (task_at set b).lock
   unfolding worst_lock
   blocker_lock {b} is_b =
       let h : b < length set = (blocker_is set p is_b).in_set in
-      let now : release_of_task order tasks p k (number_at order b) 0 ≡ some (task_at set b).lock =
+      let now : release_of_task order tasks p k (number_at order b) 0 ≡ Some (task_at set b).lock =
       release_by_place 0 b h ∙ release_blocker set p k b 0 (role_blocks set p is_b) ∙ once_at 0 (task_at set b).lock
       in
       ap lock_of (worst_entry_of order tasks p k (number_at order b) 0 (number_in_set b h) (omega arith))
@@ -174,7 +174,7 @@ module _ (order : List ℕ) (tasks : List Task) (permutes : Permutes (length tas
   seen t = seen_at set worst t
 
   -- none but with the blocker's job
-  unlocked_starts_none : (t q : ℕ) → q < length set → worst_lock (task_at set q) (role set p q) ≡ 0 → (seen t).to_come ≡ 0 → pick set (seen t) ≡ some q
+  unlocked_starts_none : (t q : ℕ) → q < length set → worst_lock (task_at set q) (role set p q) ≡ 0 → (seen t).to_come ≡ 0 → pick set (seen t) ≡ Some q
       → new_stretch order sc (seen t) (pick set (seen t)) ≡ 0
   unfolding stretch_by
   unlocked_starts_none t q h e free at =
@@ -197,7 +197,7 @@ module _ (order : List ℕ) (tasks : List Task) (permutes : Permutes (length tas
   unfolding worst_lock
   later_starts t = go (picked set (seen (suc t)))
     where
-      by_role : (q : ℕ) → q < length set → (seen (suc t)).to_come ≡ 0 → pick set (seen (suc t)) ≡ some q → 1 ≤ oldest (seen (suc t)) q → RoleOf set p q
+      by_role : (q : ℕ) → q < length set → (seen (suc t)).to_come ≡ 0 → pick set (seen (suc t)) ≡ Some q → 1 ≤ oldest (seen (suc t)) q → RoleOf set p q
           → new_stretch order sc (seen (suc t)) (pick set (seen (suc t))) ≡ 0
       by_role q h free at pend (is_above l r) = unlocked_starts_none (suc t) q h (ap (worst_lock (task_at set q)) r) free at
       by_role q h free at pend (is_own l r) = unlocked_starts_none (suc t) q h (ap (worst_lock (task_at set q)) r) free at

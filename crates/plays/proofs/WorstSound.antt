@@ -1,7 +1,7 @@
 -- No item of the worst script is turned away.
+use Rattle.std.specs.Prelude.{None, Some}
 use mathlib.Core.Bool.{not}
 use mathlib.Core.List.{List, [], ◌∷◌, ◌++◌, Memᴰ}
-use mathlib.Core.Option.{none, some}
 use mathlib.Core.Path.{◌≡◌, refl, ◌∙◌, ap}
 use Prim.Native.Nat.{ℕ, zero, suc, ◌+◌, ◌≤◌, ◌<◌}
 use native.Mathlib.Omega.{arith}
@@ -29,7 +29,7 @@ module _ (tasks : List Task) where
   -- where each entry is sound after those before it, none is turned away
   none_refused : (j : ℕ) (c : Ledger) (es : List Entry)
       → ((xs : List Entry) (e : Entry) (ys : List Entry) → es ≡ xs ++ (e ∷ ys) → Sound tasks (after_entries tasks c xs) e)
-      → first_refusal (entry_checks tasks j c es) ≡ none
+      → first_refusal (entry_checks tasks j c es) ≡ None
   unfolding entry_checks after_entries
   none_refused j c [] h = no_check
   none_refused j c (e ∷ es) h =
@@ -58,7 +58,7 @@ module _ (order : List ℕ) (tasks : List Task) (few : length tasks ≤ most_tas
   unfolding worst_run role_of_task
   first_fits i h = rw (← task_of_number order tasks permutes i h) (legal.first_frames (place_of order i) (place_of_number order tasks permutes i h))
 
-  firsts_pass : (a n : ℕ) → a + n ≤ length tasks → first_refusal (first_frame_checks tasks a (worst_firsts order tasks p k a n)) ≡ none
+  firsts_pass : (a n : ℕ) → a + n ≤ length tasks → first_refusal (first_frame_checks tasks a (worst_firsts order tasks p k a n)) ≡ None
   unfolding first_frame_checks worst_firsts
   firsts_pass a zero h = no_check
   firsts_pass a (suc n) h =
@@ -86,7 +86,7 @@ module _ (order : List ℕ) (tasks : List Task) (few : length tasks ≤ most_tas
       let there : q < length set = place_of_number order tasks permutes e.task w.of_task in
       let (next_is, free_is) = ledger_is_lane order tasks sc permutes 0 in_order xs e ys split w.of_task in
       let same = (worst_same order tasks permutes admitted p in_set k k_in e.tick (omega (arith, w.by_deadline))).same_lanes q there in
-      let now : ((worst_run set p k).input e.tick).release_of q ≡ some e.work = release_there e.task e.tick w.of_task ∙ w.with_work in
+      let now : ((worst_run set p k).input e.tick).release_of q ≡ Some e.work = release_there e.task e.tick w.of_task ∙ w.with_work in
       let rules : LegalTick set (worst_run set p k) e.tick = legal.each_tick e.tick w.by_deadline in
       record {
         in_set = w.of_task;
@@ -96,12 +96,12 @@ module _ (order : List ℕ) (tasks : List Task) (few : length tasks ≤ most_tas
         work_fits = rw (next_is, same, ← task_of_number order tasks permutes e.task w.of_task) (rules.work_fits q e.work there now);
       }
 
-  first_frames_pass : first_refusal (first_frame_checks tasks 0 sc.firsts) ≡ none
+  first_frames_pass : first_refusal (first_frame_checks tasks 0 sc.firsts) ≡ None
   unfolding worst_script
   first_frames_pass = firsts_pass 0 (length tasks) (omega arith)
 
   -- No item of the worst script is turned away.
-  pub worst_script_sound : first_refusal (item_checks tasks (worst_script order tasks p k)) ≡ none
+  pub worst_script_sound : first_refusal (item_checks tasks (worst_script order tasks p k)) ≡ None
   unfolding item_checks
   worst_script_sound =
       none_first (first_frame_checks tasks 0 sc.firsts) _ first_frames_pass

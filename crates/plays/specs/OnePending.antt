@@ -1,6 +1,5 @@
 -- SCOPE.md, "The player": what it says that before the first miss at most one job of a task is pending.
-use Rattle.std.specs.Prelude.{List, [], ◌∷◌, ◌++◌, ◌≡◌, ℕ, suc, ◌≤◌}
-use Rattle.std.proofs.Math.Option.{none}
+use Rattle.std.specs.Prelude.{List, [], ◌∷◌, ◌++◌, ◌≡◌, ℕ, suc, ◌≤◌, None}
 use Rattle.theory.specs.Tasks.{Task}
 use Rattle.theory.specs.Runs.{Job, job, oldest_left}
 use Rattle.plays.specs.Script.{Script}
@@ -8,7 +7,7 @@ use Rattle.plays.specs.Play.{misser}
 
 -- no task misses up to moment t
 abbrev pub Calm : List ℕ → List Task → Script → ℕ → Type 0
-Calm order tasks sc t = (u : ℕ) → u ≤ t → misser order tasks sc u ≡ none
+Calm order tasks sc t = (u : ℕ) → u ≤ t → misser order tasks sc u ≡ None
 
 -- of these jobs none has work left, or the youngest alone has
 pub data AtMostOne (js : List Job) : Type 0 where

@@ -1,6 +1,5 @@
 -- SCOPE.md, "The player": how the play of a script ends, and what each tick of it shows.
-use Rattle.std.specs.Prelude.{Bool, true, false, not, ◌&&◌, ◌||◌, List, [], ◌∷◌, ℕ, zero, suc, ◌+◌, ◌*◌, leb, ltb, eqb, length}
-use Rattle.std.proofs.Math.Option.{Option, none, some, get_or}
+use Rattle.std.specs.Prelude.{Bool, true, false, not, ◌&&◌, ◌||◌, List, [], ◌∷◌, ℕ, zero, suc, ◌+◌, ◌*◌, leb, ltb, eqb, length, None, Option, Some, unwrap_or}
 use Rattle.theory.specs.First.{first, every, found}
 use Rattle.theory.specs.Tasks.{Task, task_at, deadline_of}
 use Rattle.theory.specs.Runs.{Job, job, State, release, pending, pick, stretch_now}
@@ -22,8 +21,8 @@ all_released (e ∷ es) t = leb e.tick t && all_released es t
 
 -- the number of the task that has a tick; the number behind the last task's for an idle one
 unfoldable pub shown_task : List ℕ → Option ℕ → ℕ
-shown_task order none = most_tasks
-shown_task order (some p) = number_at order p
+shown_task order None = most_tasks
+shown_task order (Some p) = number_at order p
 
 -- what a byte of a trace adds in a locked stretch, from its first tick on
 unfoldable pub shown_stretch : ℕ → ℕ
@@ -53,7 +52,7 @@ module _ (order : List ℕ) (tasks : List Task) (sc : Script) where
 
   -- the first moment at which it is over: a job is released by the greatest time, and due that much later at the latest
   unfoldable pub end_of_play : ℕ
-  end_of_play = get_or (first 0 (suc (2 * greatest_time)) over) 0
+  end_of_play = unwrap_or (first 0 (suc (2 * greatest_time)) over) 0
 
   -- ---- what a tick shows
 

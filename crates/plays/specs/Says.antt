@@ -1,7 +1,6 @@
 -- SCOPE.md, "The player": what the end of a play and the bytes of a trace say of the script's run, in the words of the theory.
 use mathlib.Core.List.{List, Memᴰ}
-use Rattle.std.specs.Prelude.{◌⊎◌, ◌≡◌, ℕ, suc, ◌+◌, ◌≤◌, ◌<◌, length}
-use Rattle.std.proofs.Math.Option.{none, some}
+use Rattle.std.specs.Prelude.{◌⊎◌, ◌≡◌, ℕ, suc, ◌+◌, ◌≤◌, ◌<◌, length, None, Some}
 use Rattle.theory.specs.Tasks.{Task, task_at, deadline_of}
 use Rattle.theory.specs.Runs.{stretch_now, Left, Misses}
 use Rattle.analysis.specs.Times.{number_at, place_of}
@@ -56,6 +55,6 @@ module _ (order : List ℕ) (tasks : List Task) (sc : Script) where
 
   -- what a byte says of that tick: it is idle, or a task has it, or a task has it in a locked stretch
   pub data TickSays (n u : ℕ) : ℕ → Type 0 where
-    idle : has_tick order tasks sc n u ≡ none → TickSays n u 16
-    unlocked : (p : ℕ) → has_tick order tasks sc n u ≡ some p → stretch_length n u ≡ 0 → TickSays n u (number_at order p)
-    locked : (p m : ℕ) → has_tick order tasks sc n u ≡ some p → stretch_length n u ≡ suc m → TickSays n u (number_at order p + 32)
+    idle : has_tick order tasks sc n u ≡ None → TickSays n u 16
+    unlocked : (p : ℕ) → has_tick order tasks sc n u ≡ Some p → stretch_length n u ≡ 0 → TickSays n u (number_at order p)
+    locked : (p m : ℕ) → has_tick order tasks sc n u ≡ Some p → stretch_length n u ≡ suc m → TickSays n u (number_at order p + 32)

@@ -1,6 +1,5 @@
 -- SCOPE.md, "Run scripts": what a script says. Tasks go by their numbers.
-use Rattle.std.specs.Prelude.{◌&&◌, cond, List, [], ◌∷◌, ℕ, eqb}
-use Rattle.std.proofs.Math.Option.{Option, none, some}
+use Rattle.std.specs.Prelude.{◌&&◌, cond, List, [], ◌∷◌, ℕ, eqb, None, Option, Some}
 use Rattle.plays.specs.declared.Entry.{Entry}
 
 -- a script: a first frame for each task, and the releases
@@ -14,5 +13,5 @@ no_entry = record { task = 0; tick = 0; work = 0; lock = 0 }
 
 -- the entry of task i at tick t
 unfoldable pub entry_of : List Entry → ℕ → ℕ → Option Entry
-entry_of [] i t = none
-entry_of (e ∷ es) i t = cond (eqb e.task i && eqb e.tick t) (some e) (entry_of es i t)
+entry_of [] i t = None
+entry_of (e ∷ es) i t = cond (eqb e.task i && eqb e.tick t) (Some e) (entry_of es i t)

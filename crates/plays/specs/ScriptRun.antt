@@ -1,6 +1,5 @@
 -- SCOPE.md, "Run scripts": the run of a script. The theory's runs go by places of the priority order, a script by task numbers; `order` has the number of each place.
-use Rattle.std.specs.Prelude.{cond, List, [], ◌∷◌, map, ℕ, zero, suc, leb, get_or}
-use Rattle.std.proofs.Math.Option.{Option, none, some}
+use Rattle.std.specs.Prelude.{cond, List, [], ◌∷◌, map, ℕ, zero, suc, leb, get_or, None, Option, Some}
 use Rattle.theory.specs.Tasks.{Task, task_at}
 use Rattle.theory.specs.Runs.{Job, job, State, Input, Run, release, pick, step}
 use Rattle.analysis.specs.Times.{number_at}
@@ -13,13 +12,13 @@ by_place order tasks = map (task_at tasks) order
 
 -- the release that an entry makes, with its work; none where there is no entry
 unfoldable pub work_of : Option Entry → Option ℕ
-work_of none = none
-work_of (some e) = some e.work
+work_of None = None
+work_of (Some e) = Some e.work
 
 -- the lock of an entry; 0 where there is none
 unfoldable pub lock_of : Option Entry → ℕ
-lock_of none = 0
-lock_of (some e) = e.lock
+lock_of None = 0
+lock_of (Some e) = e.lock
 
 -- the releases of tick t, place by place
 unfoldable pub released_at : List ℕ → Script → ℕ → ℕ → Option ℕ
@@ -37,8 +36,8 @@ stretch_by lock = cond (leb 2 lock) lock 0
 
 -- the stretch that starts with an unlocked pick of the job at a place, none with an idle tick
 unfoldable pub stretch_at : List ℕ → Script → State → Option ℕ → ℕ
-stretch_at order sc s none = 0
-stretch_at order sc s (some p) = stretch_by (pending_lock sc (number_at order p) (s.lanes p).jobs)
+stretch_at order sc s None = 0
+stretch_at order sc s (Some p) = stretch_by (pending_lock sc (number_at order p) (s.lanes p).jobs)
 
 -- none while one is under way
 unfoldable pub new_stretch : List ℕ → Script → State → Option ℕ → ℕ

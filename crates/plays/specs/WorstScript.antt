@@ -1,6 +1,5 @@
 -- SCOPE.md, "The worst run written": the script of the worst run of frame k of the task at place p, and when two runs are the same.
-use Rattle.std.specs.Prelude.{List, [], ◌∷◌, ◌≡◌, ℕ, zero, suc, ◌<◌, length}
-use Rattle.std.proofs.Math.Option.{Option, none, some}
+use Rattle.std.specs.Prelude.{List, [], ◌∷◌, ◌≡◌, ℕ, zero, suc, ◌<◌, length, None, Option, Some}
 use Rattle.theory.specs.Tasks.{Task, task_at, deadline_of}
 use Rattle.theory.specs.Runs.{Run}
 use Rattle.theory.specs.WorstRun.{Role, above, own, blocks, absent, role, worst_first, worst_release}
@@ -19,8 +18,8 @@ worst_lock t absent = 0
 
 -- a release of task i at tick t as a row of entries
 unfoldable pub entry_row : ℕ → ℕ → ℕ → Option ℕ → List Entry
-entry_row i t lock none = []
-entry_row i t lock (some w) = record { task = i; tick = t; work = w; lock = lock } ∷ []
+entry_row i t lock None = []
+entry_row i t lock (Some w) = record { task = i; tick = t; work = w; lock = lock } ∷ []
 
 module _ (order : List ℕ) (tasks : List Task) (p k : ℕ) where
   -- what task i is to the task at place p

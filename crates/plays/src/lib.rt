@@ -2,7 +2,7 @@
 #![tactic(auto)]
 
 // One release: its task by number, its tick, the work of the job, and the length of the stretch that each unlocked pick of the job starts.
-#[derive(Clone, Copy)]
+#[derive(Clone, Copy, Debug, Default, PartialEq, Eq)]
 pub struct Entry {
     pub task: u32,
     pub tick: u32,

@@ -1,15 +1,16 @@
 -- The numbers of a record: how many there are, and which is which.
 use mathlib.Core.Bool.{Bool, true, false}
-use mathlib.Core.List.{List, ◌++◌}
+use mathlib.Core.List.{List}
 use mathlib.Core.Path.{◌≡◌, refl, sym, ap, ◌∙◌}
-use Prim.Native.Nat.{ℕ, suc, ◌-◌, ◌*◌, ◌≤◌, ◌<◌}
+use Prim.Native.Nat.{ℕ, suc, ◌*◌, ◌≤◌, ◌<◌}
 use native.Mathlib.Nat.{one-mul}
 use native.Mathlib.Numerals.{add-one}
 use native.Mathlib.Omega.{arith}
-use lib.ListN.{length, get_or, take, replicate, length-append, get_or-replicate}
+use lib.ListN.{length, get_or, take, get_or-replicate}
 use lib.Seq.{get_or-take, length-take-le}
-use Rattle.sheet.specs.Constants.{fixed_room, most_frames, time_width}
-use Rattle.sheet.specs.Fields.{fixed_widths, period_field, lock_field, frame_count_field, frame_fields, frame_widths}
+use Rattle.records.proofs.Parts.{take_replicate}
+use Rattle.sheet.specs.Constants.{most_frames, time_width}
+use Rattle.sheet.specs.Fields.{period_field, lock_field, frame_fields, frame_widths}
 use Rattle.sheet.specs.Tasks.{in_slots, record_of}
 use Rattle.sheet.specs.Layout.{task_from}
 use Rattle.sheet.specs.declared.Task.{Task as Record}
@@ -27,25 +28,9 @@ pub some_fields : (own : Bool) (n : ℕ) → 1 ≤ n → 1 ≤ frame_fields own 
 some_fields false n h = omega arith
 some_fields true n h = omega arith
 
--- a field's place is one of the slots
-pub count_place : (own : Bool) → frame_count_field own < fixed_room
-count_place false = omega arith
-count_place true = omega arith
-
-pub lock_place : (own : Bool) → lock_field own < fixed_room
-lock_place false = omega arith
-lock_place true = omega arith
-
-pub time_place : (own : Bool) (k : ℕ) → k < most_frames → frame_fields own * k < frame_slots
-time_place false k h = omega arith
-time_place true k h = omega arith
-
--- the widths in use are some of those that are there
-pub in_use : (own : Bool) (n : ℕ) (ws : List ℕ) → n ≡ length (fixed_widths own) → ws ≡ fixed_widths own ++ replicate (fixed_room - length (fixed_widths own)) 0 → n ≤ length ws
-in_use own n ws e f = rw (e, f, length-append (fixed_widths own) (replicate (fixed_room - length (fixed_widths own)) 0)) (omega arith)
-
-pub frames_in_use : (own : Bool) (n m : ℕ) (ws : List ℕ) → n ≤ most_frames → m ≡ frame_fields own → ws ≡ frame_widths true most_frames → m * n ≤ length ws
-frames_in_use own n m ws few e f = rw (e, f) (fields_few own n few)
+-- the widths of n frames are the first of those of eight
+pub frames_first : (own : Bool) (n m : ℕ) (ws : List ℕ) → n ≤ most_frames → m ≡ frame_fields own → ws ≡ frame_widths true most_frames → take (m * n) ws ≡ frame_widths own n
+frames_first own n m ws h e f = rw (e, f) (take_replicate (frame_fields own * n) frame_slots time_width (fields_few own n h))
 
 -- ---- the task of the numbers
 

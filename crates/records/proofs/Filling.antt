@@ -1,4 +1,5 @@
 -- Zeros up to a whole byte, what is left behind the last field, and the sealed record that a string is made.
+use Rattle.std.specs.Prelude.{Ok, Err}
 use mathlib.Core.Bool.{Bool, true, false, not, cond, true≢false}
 use mathlib.Core.List.{List, [], ◌∷◌, ◌++◌, append-nil}
 use mathlib.Core.Path.{◌≡◌, refl, sym, ap, ap₂, ◌∙◌}
@@ -20,7 +21,7 @@ use Rattle.check_word.specs.Division.{word_size, seal, body, with_seal}
 use Rattle.check_word.proofs.Sealing.{length_seal}
 use Rattle.records.specs.Sealed.{bytes_for, whole_bytes, sealed_record, sealed_size, some_set, rest_of}
 use Rattle.records.specs.Faces.{closed}
-use Rattle.records.specs.declared.Rest.TheVariants.{Zeros, ByteLeft, BitSet}
+use Rattle.records.specs.declared.Surplus.TheVariants.{ByteLeft, BitSet}
 
 -- ---- whole bytes
 
@@ -93,23 +94,20 @@ no_bits [] e = refl
 no_bits (b ∷ bs) e = let z : ⊥ = omega arith in absurd z
 
 module _ (bs : List Bool) where
-  pub rest_long : 8 ≤ length bs → ByteLeft ≡ rest_of bs
+  pub rest_long : 8 ≤ length bs → Err ByteLeft ≡ rest_of bs
   unfolding rest_of
-  rest_long h = ap (λ (b : Bool). cond b ByteLeft (cond (some_set bs) BitSet Zeros)) (sym (le-leb 8 (length bs) h))
+  rest_long h = rw (le-leb 8 (length bs) h)
 
   module _ (h : length bs < 8) where
-    by_set : rest_of bs ≡ cond (not (eqb (value bs) 0)) BitSet Zeros
+    pub rest_set : (value bs ≡ 0 → ⊥) → Err BitSet ≡ rest_of bs
     unfolding rest_of
-    by_set =
-        ap₂ (λ (b c : Bool). cond b ByteLeft (cond c BitSet Zeros)) (lt-leb 8 (length bs) h) (set_by_value bs)
+    rest_set f = rw (lt-leb 8 (length bs) h, set_by_value bs, ne_eqb (value bs) 0 f)
 
-    pub rest_set : (value bs ≡ 0 → ⊥) → BitSet ≡ rest_of bs
-    rest_set f = sym (by_set ∙ ap (λ (b : Bool). cond (not b) BitSet Zeros) (ne_eqb (value bs) 0 f))
+    pub rest_zeros : value bs ≡ 0 → Ok tt ≡ rest_of bs
+    unfolding rest_of
+    rest_zeros e = rw (lt-leb 8 (length bs) h, set_by_value bs, eq-eqb (value bs) 0 e)
 
-    pub rest_zeros : value bs ≡ 0 → Zeros ≡ rest_of bs
-    rest_zeros e = sym (by_set ∙ ap (λ (b : Bool). cond (not b) BitSet Zeros) (eq-eqb (value bs) 0 e))
-
-  pub rest_none : length bs ≡ 0 → Zeros ≡ rest_of bs
+  pub rest_none : length bs ≡ 0 → Ok tt ≡ rest_of bs
   rest_none e = rest_zeros (omega arith) (no_bits bs e)
 
 -- ---- a string made a sealed record
@@ -133,9 +131,7 @@ cleared s n (suc w) h l =
 module _ (s : List ℕ) (n : ℕ) where
   pub not_closed : (length s ≡ sealed_size n → ⊥) → (false ≡ eqb (length s) (sealed_size n)) × (s ≡ closed s n)
   unfolding closed
-  not_closed f =
-      let e = sym (ne_eqb (length s) (sealed_size n) f) in
-      (e, ap (λ (b : Bool). cond b (sealed_record (take n (bits_of s))) s) e)
+  not_closed f = (rw (ne_eqb (length s) (sealed_size n) f), rw (ne_eqb (length s) (sealed_size n) f))
 
   module _ (e : length s ≡ sealed_size n) (t : List ℕ) (et : t ≡ stored s n ((8 - n % 8) % 8) 0) (bytes : Bytes t) (long : length t ≡ length s) where
     fill : ℕ

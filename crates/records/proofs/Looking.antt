@@ -1,19 +1,17 @@
 -- A row that is looked for in a string whose end a position reaches: it is there exactly where so many bits are left.
-use mathlib.Core.Bool.{Bool, true, false, ◌&&◌, cond}
+use Rattle.std.specs.Prelude.{None, Option, Some}
+use Rattle.std.proofs.lemmas.Bool.Decides.{nat_tests}
+use mathlib.Core.Bool.{Bool, true, false}
 use mathlib.Core.List.{List}
-use mathlib.Core.Path.{◌≡◌, ap, ap₂, ◌∙◌}
+use mathlib.Core.Path.{◌≡◌, ap, ◌∙◌}
 use Prim.Native.Nat.{ℕ, ◌+◌, ◌*◌, ◌≤◌, ◌<◌}
 use native.Mathlib.Decide.{dec_le}
 use native.Mathlib.Omega.{arith}
-use borrow.Author.Tests.{le-leb, lt-leb}
-use lib.Dec.{leb}
 use lib.ListN.{length, drop}
 use Rattle.bits.specs.Packed.{bits_of}
 use Rattle.lent.specs.Lent.{laid}
 use Rattle.records.specs.Rows.{unpacked, total}
-use Rattle.records.specs.Faces.{last_position, end_of, lawful, row_there, ends, row_has_slots, taken_row}
-use Rattle.records.specs.declared.Row.{Row}
-use Rattle.records.specs.declared.Row.TheVariants.{EndsAt, Untouched}
+use Rattle.records.specs.Faces.{last_position, lawful, row_there, ends, row_has_slots, taken_row}
 use Rattle.records.proofs.Filling.{length_rest}
 
 module _ (s : List ℕ) (at : ℕ) (ws ns : List ℕ) (widths : lawful ws ≡ true) (near : 8 * length s ≤ last_position) (slots : length ws ≤ length ns) (some : 1 ≤ total ws) where
@@ -22,22 +20,18 @@ module _ (s : List ℕ) (at : ℕ) (ws ns : List ℕ) (widths : lawful ws ≡ tr
 
   there : total ws ≤ length bits_left → row_has_slots (length s) at ws (length ns) ≡ true
   unfolding row_has_slots row_there
-  there h =
-      ap₂ ◌&&◌
-      (ap₂ ◌&&◌ widths (le-leb (at + total ws) (end_of (length s)) (omega (arith, length_rest s at))))
-      (le-leb (length ws) (length ns) slots)
+  there h = let l = length_rest s at in grind (arith, nat_tests)
 
   missing : length bits_left < total ws → row_has_slots (length s) at ws (length ns) ≡ false
   unfolding row_has_slots row_there
-  missing h =
-      ap₂ (λ (a b : Bool). (a && b) && leb (length ws) (length ns)) widths (lt-leb (at + total ws) (end_of (length s)) (omega (arith, length_rest s at)))
+  missing h = let l = length_rest s at in grind (arith, nat_tests)
 
   pub row_numbers : total ws ≤ length bits_left → taken_row s at ws ns ≡ laid (unpacked ws bits_left) ns
   unfolding taken_row
-  row_numbers h = ap (λ (b : Bool). cond b (laid (unpacked ws bits_left) ns) ns) (there h)
+  row_numbers h = rw (there h)
 
-  module _ (r : Row) (e : r ≡ ends (row_has_slots (length s) at ws (length ns)) at ws) where
-    pub row_found : (next : ℕ) → r ≡ EndsAt next → (total ws ≤ length bits_left) × (next ≡ at + total ws)
+  module _ (r : Option ℕ) (e : r ≡ ends (row_has_slots (length s) at ws (length ns)) at ws) where
+    pub row_found : (next : ℕ) → r ≡ Some next → (total ws ≤ length bits_left) × (next ≡ at + total ws)
     row_found next f = go (dec_le (total ws) (length bits_left))
       where
         go : Dec (total ws ≤ length bits_left) → (total ws ≤ length bits_left) × (next ≡ at + total ws)
@@ -48,7 +42,7 @@ module _ (s : List ℕ) (at : ℕ) (ws ns : List ℕ) (widths : lawful ws ≡ tr
             let y : ⊥ = omega arith in
             absurd y
 
-    pub row_missing : r ≡ Untouched → length bits_left < total ws
+    pub row_missing : r ≡ None → length bits_left < total ws
     row_missing f = go (dec_le (total ws) (length bits_left))
       where
         go : Dec (total ws ≤ length bits_left) → length bits_left < total ws

@@ -73,12 +73,13 @@ module _ {s t : List ℕ} {at next i : ℕ} {ws vs : List ℕ} (widths : lawful 
       record { low = w.0; high = w.1; there = omega (arith, next_is, total_part ws i l, p.long) }
 
   -- and ends within the row
-  pub row_end : next + get_or ws i 0 ≤ at + total ws
-  row_end = omega (arith, next_is, total_part ws i l)
+  pub row_end : (w : ℕ) → w ≡ get_or ws i 0 → next + w ≤ at + total ws
+  row_end w e = omega (arith, next_is, total_part ws i l)
 
-  pub row_more : RowTo s at ws vs (i + 1) (stored t next (get_or ws i 0) (get_or vs i 0)) (next + get_or ws i 0)
-  row_more =
-      let q = placed_field t next (get_or ws i 0) (get_or vs i 0) row_inside (fits_at ws vs fits i l) in
+  pub row_more : (w v j : ℕ) → w ≡ get_or ws i 0 → v ≡ get_or vs i 0 → j ≡ i + 1 → RowTo s at ws vs j (stored t next w v) (next + w)
+  row_more w v j ew ev ej =
+      rw (ew, ev, ej)
+      (let q = placed_field t next (get_or ws i 0) (get_or vs i 0) row_inside (fits_at ws vs fits i l) in
       let here : next + length (digits (get_or ws i 0) (get_or vs i 0)) ≤ 8 * length t = rw (length_digits (get_or ws i 0) (get_or vs i 0)) row_inside.there in
       record {
         put =
@@ -87,7 +88,7 @@ module _ {s t : List ℕ} {at next i : ℕ} {ws vs : List ℕ} (widths : lawful 
             (rw (so_far, length_digits (get_or ws i 0) (get_or vs i 0)) (omega (arith, total_part ws i l))) p.put q);
         in_row = omega arith;
         long = placed_long here q ∙ p.long;
-      }
+      })
 
 pub row_all : {s t : List ℕ} {at next i : ℕ} {ws vs : List ℕ} → length ws ≡ length vs → RowTo s at ws vs i t next → length ws ≤ i → Placed s at (packed ws vs) t next
 row_all {i = i} {ws = ws} {vs = vs} e p h = rw (take_all i ws h, take_all i vs (rw (← e) h)) at p.put

@@ -1,4 +1,5 @@
 -- Rows put one behind the other: each finds its room behind the one before it.
+use Rattle.std.specs.Prelude.{unwrap_or}
 use mathlib.Core.Bool.{Bool, true}
 use mathlib.Core.List.{List}
 use mathlib.Core.Path.{◌≡◌, sym, ap, ◌∙◌}
@@ -9,7 +10,7 @@ use lib.ListN.{length, take, drop}
 use lib.Seq.{take_at}
 use Rattle.bits.specs.Packed.{bits_of, with_field}
 use Rattle.records.specs.Rows.{packed, total}
-use Rattle.records.specs.Faces.{end_of, lawful, ends, next_after, row_fits, stored_row}
+use Rattle.records.specs.Faces.{end_of, lawful, ends, row_fits, stored_row}
 use Rattle.records.specs.Inside.Steps.{Placed}
 use Rattle.records.proofs.Packing.{Fit, length_packed, fit_length}
 use Rattle.records.proofs.Rows.{as_many, of_fit, there_is}
@@ -25,13 +26,13 @@ row_can n at {ws} {vs} e f h =
 
 -- a row that can be put is placed
 pub row_placed : (s : List ℕ) (at : ℕ) (ws vs : List ℕ) → row_fits (length s) at ws vs ≡ true → {t : List ℕ} {next : ℕ}
-    → (next ≡ next_after (ends (row_fits (length s) at ws vs) at ws) at) × (t ≡ stored_row s at ws vs) → Placed s at (packed ws vs) t next
+    → (next ≡ unwrap_or (ends (row_fits (length s) at ws vs) at ws) at) × (t ≡ stored_row s at ws vs) → Placed s at (packed ws vs) t next
 row_placed s at ws vs e h =
     record {
       placed = ap bits_of (h.1 ∙ stored_is s at ws vs e) ∙ bits_with s at (packed ws vs) (row_room s at ws vs e);
       behind =
           h.0
-          ∙ ap (λ (b : Bool). next_after (ends b at ws) at) e
+          ∙ ap (λ (b : Bool). unwrap_or (ends b at ws) at) e
           ∙ ap (λ (k : ℕ). at + k) (sym (length_packed ws vs (as_many ws vs (puts (length s) at ws vs e).fits)));
     }
 

@@ -1,16 +1,16 @@
 -- Which rows there are and which numbers fit them: the outcomes of `row_there` and `each_fits`, by the fact that decides each.
-use mathlib.Core.Bool.{Bool, true, false, ◌&&◌, and-eq-true_iff, and-false, false≢true}
+use Rattle.std.proofs.lemmas.Bool.Decides.{nat_tests}
+use mathlib.Core.Bool.{Bool, true, false, ◌&&◌, and-false, false≢true}
 use mathlib.Core.List.{List, [], ◌∷◌}
 use mathlib.Core.Path.{◌≡◌, refl, ap, ap₂, ◌∙◌}
 use Prim.Native.Nat.{ℕ, zero, suc, ◌+◌, ◌-◌, ◌^◌, ◌≤◌, ◌<◌}
 use native.Mathlib.Numerals.{add-one}
 use native.Mathlib.Omega.{arith}
-use borrow.Author.Tests.{le-leb, lt-leb, leb-true, lt-ltb, le-ltb, ltb-true}
+use borrow.Author.Tests.{le-leb, lt-ltb, le-ltb}
 use lib.Dec.{leb, ltb}
 use lib.ListN.{length, get_or, drop, drop_of_length-le}
 use lib.Seq.{drop-cons}
 use Rattle.bits.specs.Faces.{widest}
-use Rattle.bits.proofs.Tests.{leb_iff}
 use Rattle.records.specs.Rows.{total}
 use Rattle.records.specs.Faces.{end_of, lawful, row_there, each_fits}
 use Rattle.records.proofs.Packing.{Fit, no_field, one_more}
@@ -19,10 +19,7 @@ use Rattle.records.proofs.Packing.{Fit, no_field, one_more}
 
 lawful_first : (w : ℕ) (ws : List ℕ) → lawful (w ∷ ws) ≡ true → (1 ≤ w) × (w ≤ widest) × (lawful ws ≡ true)
 unfolding lawful
-lawful_first w ws e =
-    let all = (and-eq-true_iff (leb 1 w && leb w widest) (lawful ws)).0 e in
-    let width = (and-eq-true_iff (leb 1 w) (leb w widest)).0 all.0 in
-    (leb-true 1 w width.0, leb-true w widest width.1, all.1)
+lawful_first w ws e = (grind (arith, nat_tests), grind (arith, nat_tests), grind (arith, nat_tests))
 
 pub lawful_at : (ws : List ℕ) → lawful ws ≡ true → (i : ℕ) → i < length ws → (1 ≤ get_or ws i 0) × (get_or ws i 0 ≤ widest)
 lawful_at [] e i h = let z : ⊥ = omega arith in absurd z
@@ -36,13 +33,13 @@ pub room_for : ℕ → List ℕ → Bool
 room_for left ws = lawful ws && leb (total ws) left
 
 module _ (n at : ℕ) (ws : List ℕ) where
-  pub there_room : at ≤ end_of n → row_there n at ws ≡ room_for (end_of n - at) ws
+  pub there_room : (left : ℕ) → at ≤ end_of n → left ≡ end_of n - at → row_there n at ws ≡ room_for left ws
   unfolding row_there room_for
-  there_room h = ap (λ (b : Bool). lawful ws && b) (leb_iff (at + total ws) (end_of n) (total ws) (end_of n - at) (λ p. omega arith) (λ p. omega arith))
+  there_room left h e = grind (arith, nat_tests)
 
   pub there_past : end_of n < at → row_there n at ws ≡ false
   unfolding row_there
-  there_past h = ap (λ (b : Bool). lawful ws && b) (lt-leb (at + total ws) (end_of n) (omega arith)) ∙ and-false (lawful ws)
+  there_past h = grind (arith, nat_tests)
 
   pub there_is : lawful ws ≡ true → row_there n at ws ≡ leb (at + total ws) (end_of n)
   unfolding row_there
@@ -51,34 +48,20 @@ module _ (n at : ℕ) (ws : List ℕ) where
   -- what a row that is there has
   pub there_has : row_there n at ws ≡ true → (lawful ws ≡ true) × (at + total ws ≤ end_of n)
   unfolding row_there
-  there_has e = let both = (and-eq-true_iff (lawful ws) (leb (at + total ws) (end_of n))).0 e in (both.0, leb-true _ _ both.1)
+  there_has e = (grind (arith, nat_tests), grind (arith, nat_tests))
 
 -- one field after another
 module _ (left : ℕ) (ws : List ℕ) (i : ℕ) (h : i < length ws) where
   next_is : drop i ws ≡ get_or ws i 0 ∷ drop (suc i) ws
   next_is = drop-cons ws i 0 h
 
-  pub room_narrow : get_or ws i 0 < 1 → room_for left (drop i ws) ≡ false
-  unfolding room_for lawful
-  room_narrow l = rw (next_is, lt-leb 1 (get_or ws i 0) l)
-
-  pub room_wide : 1 ≤ get_or ws i 0 → widest < get_or ws i 0 → room_for left (drop i ws) ≡ false
-  unfolding room_for lawful
-  room_wide m l = rw (next_is, le-leb 1 (get_or ws i 0) m, lt-leb (get_or ws i 0) widest l)
-
-  pub room_short : left < get_or ws i 0 → room_for left (drop i ws) ≡ false
-  unfolding room_for total
-  room_short l =
-      ap (λ (us : List ℕ). lawful us && leb (total us) left) next_is
-      ∙ ap (λ (b : Bool). lawful (get_or ws i 0 ∷ drop (suc i) ws) && b) (lt-leb (get_or ws i 0 + total (drop (suc i) ws)) left (omega arith))
-      ∙ and-false (lawful (get_or ws i 0 ∷ drop (suc i) ws))
+  pub room_not : (1 ≤ get_or ws i 0 → get_or ws i 0 ≤ widest → get_or ws i 0 ≤ left → ⊥) → room_for left (drop i ws) ≡ false
+  unfolding room_for lawful total
+  room_not f = rw next_is (grind (arith, nat_tests))
 
   pub room_more : 1 ≤ get_or ws i 0 → get_or ws i 0 ≤ widest → get_or ws i 0 ≤ left → room_for left (drop i ws) ≡ room_for (left - get_or ws i 0) (drop (i + 1) ws)
   unfolding room_for lawful total
-  room_more m w l =
-      rw (next_is, le-leb 1 (get_or ws i 0) m, le-leb (get_or ws i 0) widest w, add-one i)
-      (ap (λ (b : Bool). lawful (drop (suc i) ws) && b)
-      (leb_iff (get_or ws i 0 + total (drop (suc i) ws)) left (total (drop (suc i) ws)) (left - get_or ws i 0) (λ p. omega arith) (λ p. omega arith)))
+  room_more m w l = rw (next_is, add-one i) (grind (arith, nat_tests))
 
 pub room_all : (left : ℕ) (ws : List ℕ) (i : ℕ) → length ws ≤ i → room_for left (drop i ws) ≡ true
 unfolding room_for lawful total
@@ -93,22 +76,39 @@ uneven [] (v ∷ vs) f = refl
 uneven (w ∷ ws) [] f = refl
 uneven (w ∷ ws) (v ∷ vs) f = ap (λ (b : Bool). ltb v (2 ^ w) && b) (uneven ws vs (λ e. f (ap suc e))) ∙ and-false (ltb v (2 ^ w))
 
-module _ (ws vs : List ℕ) (i : ℕ) (h : i < length ws) (l : i < length vs) where
-  pub fits_not : 2 ^ get_or ws i 0 ≤ get_or vs i 0 → each_fits (drop i ws) (drop i vs) ≡ false
-  unfolding each_fits
-  fits_not g = rw (drop-cons ws i 0 h, drop-cons vs i 0 l, le-ltb (get_or vs i 0) (2 ^ get_or ws i 0) g)
+-- what is left of widths and numbers, where all before fits
+pub record FitsLeft (ws vs us ns : List ℕ) : Type 0 where
+  pub widths : lawful us ≡ true
+  pub even : length us ≡ length ns
+  pub same : each_fits ws vs ≡ each_fits us ns
 
-  pub fits_more : get_or vs i 0 < 2 ^ get_or ws i 0 → each_fits (drop i ws) (drop i vs) ≡ each_fits (drop (i + 1) ws) (drop (i + 1) vs)
-  unfolding each_fits
-  fits_more g = rw (drop-cons ws i 0 h, drop-cons vs i 0 l, lt-ltb (get_or vs i 0) (2 ^ get_or ws i 0) g, add-one i)
+pub left_all : {ws vs us ns : List ℕ} → lawful ws ≡ true → length ws ≡ length vs → us ≡ ws → ns ≡ vs → FitsLeft ws vs us ns
+left_all e l eu en = rw (eu, en) (record { widths = e; even = l; same = refl })
 
-pub fits_all : (ws vs : List ℕ) (i : ℕ) → length ws ≤ i → length vs ≤ i → each_fits (drop i ws) (drop i vs) ≡ true
+module _ {ws vs us ns us' ns' : List ℕ} {w v : ℕ} (p : FitsLeft ws vs us ns) (eu : us ≡ w ∷ us') (en : ns ≡ v ∷ ns') where
+  pub left_width : w ≤ widest
+  left_width = (lawful_first w us' (rw eu at p.widths)).1
+
+  pub left_not : 2 ^ w ≤ v → each_fits ws vs ≡ false
+  unfolding each_fits
+  left_not h = p.same ∙ rw (eu, en, le-ltb v (2 ^ w) h)
+
+  pub left_more : v < 2 ^ w → FitsLeft ws vs us' ns'
+  unfolding each_fits
+  left_more h =
+      record {
+        widths = (lawful_first w us' (rw eu at p.widths)).2;
+        even = omega (arith, p.even, ap length eu, ap length en);
+        same = p.same ∙ rw (eu, en, lt-ltb v (2 ^ w) h);
+      }
+
+pub left_none : {ws vs us ns : List ℕ} → FitsLeft ws vs us ns → us ≡ [] → ns ≡ [] → each_fits ws vs ≡ true
 unfolding each_fits
-fits_all ws vs i h l = rw (drop_of_length-le ws h, drop_of_length-le vs l)
+left_none p eu en = p.same ∙ rw (eu, en)
 
 fits_first : (w v : ℕ) (ws vs : List ℕ) → each_fits (w ∷ ws) (v ∷ vs) ≡ true → (v < 2 ^ w) × (each_fits ws vs ≡ true)
 unfolding each_fits
-fits_first w v ws vs e = let both = (and-eq-true_iff (ltb v (2 ^ w)) (each_fits ws vs)).0 e in (ltb-true v (2 ^ w) both.0, both.1)
+fits_first w v ws vs e = (grind (arith, nat_tests), grind (arith, nat_tests))
 
 pub as_many : (ws vs : List ℕ) → each_fits ws vs ≡ true → length ws ≡ length vs
 unfolding each_fits

@@ -1,7 +1,8 @@
 -- The numbers of a row, taken one after another.
+use Rattle.std.specs.Prelude.{Option, unwrap_or}
 use mathlib.Core.List.{List}
 use mathlib.Core.Path.{◌≡◌, sym, ap, ◌∙◌}
-use Prim.Native.Nat.{ℕ, ◌+◌, ◌≤◌, ◌<◌}
+use Prim.Native.Nat.{ℕ, ◌+◌, ◌*◌, ◌≤◌, ◌<◌}
 use native.Mathlib.Nat.{add-zero}
 use native.Mathlib.Numerals.{add-one}
 use native.Mathlib.Omega.{arith}
@@ -13,15 +14,23 @@ use Rattle.bits.proofs.Faces.{taken_value}
 use Rattle.bits.proofs.Fields.{field_drop}
 use Rattle.bits.proofs.Within.{Inside}
 use Rattle.lent.specs.Lent.{laid}
-use Rattle.lent.proofs.Laid.{laid_to, laid_none, laid_more, laid_to_length, laid_all}
+use Rattle.lent.proofs.Laid.{laid_to, laid_none, laid_more, laid_all}
 use Rattle.records.specs.Rows.{unpacked, total}
-use Rattle.records.specs.Inside.Steps.{number_taken}
 use Rattle.records.proofs.Faces.{Takes}
+use Rattle.records.proofs.Filling.{field_rest}
 use Rattle.records.proofs.Packing.{length_unpacked, number_in, total_more, total_part}
 use Rattle.records.proofs.Rows.{lawful_at}
 
-pub number_is : (s : List ℕ) (at w : ℕ) → Inside (length s) at w → number_taken (taken s at w) ≡ value (field at w (bits_of s))
-number_is s at w h = ap number_taken (taken_value s at w h)
+pub number_is : (s : List ℕ) (at w : ℕ) → Inside (length s) at w → unwrap_or (taken s at w) 0 ≡ value (field at w (bits_of s))
+number_is s at w h = ap (λ (o : Option ℕ). unwrap_or o 0) (taken_value s at w h)
+
+-- the number of all that is left behind a position
+pub number_left : (s : List ℕ) (at w : ℕ) (o : Option ℕ) (v : ℕ) → o ≡ taken s at w → v ≡ unwrap_or o 0 → 1 ≤ w → w ≤ 8 → at + w ≡ 8 * length s → v ≡ value (drop at (bits_of s))
+number_left s at w o v e f low high end =
+    f
+    ∙ ap (λ (p : Option ℕ). unwrap_or p 0) e
+    ∙ number_is s at w (record { low = low; high = omega arith; there = omega arith })
+    ∙ ap value (field_rest s at w (omega arith))
 
 -- the first i numbers of a row stand in their slots
 pub record TakenTo (s : List ℕ) (at : ℕ) (ws ns : List ℕ) (i : ℕ) (ms : List ℕ) (next : ℕ) : Type 0 where
@@ -37,16 +46,13 @@ module _ {s : List ℕ} {at : ℕ} {ws ns : List ℕ} (row : Takes (length s) at
   as_many : length (unpacked ws (drop at (bits_of s))) ≡ length ws
   as_many = length_unpacked ws (drop at (bits_of s))
 
-  pub taken_long : length ms ≡ length ns
-  taken_long = ap length p.hold ∙ laid_to_length _ ns i (omega (arith, as_many, p.in_row)) (omega (arith, row.enough, p.in_row))
-
   module _ (l : i < length ws) where
     pub taken_inside : Inside (length s) next (get_or ws i 0)
     taken_inside =
         let w = lawful_at ws row.widths i l in
         record { low = w.0; high = w.1; there = omega (arith, p.position, total_part ws i l, row.room) }
 
-    pub taken_more : (v : ℕ) → v ≡ number_taken (taken s next (get_or ws i 0)) → TakenTo s at ws ns (i + 1) (set ms i v) (next + get_or ws i 0)
+    pub taken_more : (v : ℕ) → v ≡ unwrap_or (taken s next (get_or ws i 0)) 0 → TakenTo s at ws ns (i + 1) (set ms i v) (next + get_or ws i 0)
     taken_more v e =
         let is : v ≡ get_or (unpacked ws (drop at (bits_of s))) i 0 =
         e

@@ -1,5 +1,5 @@
 -- Rows and records by hand: what the definitions give.
-use Rattle.std.specs.Prelude.{true, false, [], ◌∷◌, ◌≡◌, refl}
+use Rattle.std.specs.Prelude.{true, false, [], ◌∷◌, ◌≡◌, refl, Ok, Err}
 use Rattle.std.proofs.Math.Bool.{xor}
 use Rattle.bits.specs.Packed.{value, digits, bits_of, bytes_of, with_field}
 use Rattle.check_word.specs.Division.{added, polynomial, divided, remainder, started, check_word, seal}
@@ -7,7 +7,7 @@ use Rattle.lent.specs.Lent.{laid}
 use Rattle.records.specs.Rows.{packed, unpacked, total}
 use Rattle.records.specs.Sealed.{whole_bytes, sealed_record, some_set, rest_of}
 use Rattle.records.specs.Faces.{lawful, row_there, each_fits, row_fits, with_bits, stored_row, row_has_slots, taken_row, closed}
-use Rattle.records.specs.declared.Rest.TheVariants.{Zeros, ByteLeft, BitSet}
+use Rattle.records.specs.declared.Surplus.TheVariants.{ByteLeft, BitSet}
 
 rows : Unit {0}
 unfolding packed unpacked total lawful row_there each_fits row_fits with_bits stored_row row_has_slots taken_row laid value digits bits_of bytes_of with_field
@@ -42,14 +42,14 @@ pub close_nine : closed (0x41 ∷ 0x7F ∷ 0xAB ∷ 0xCD ∷ []) 9 ≡ 0x41 ∷ 
 unfolding records
 close_nine = refl
 
-pub left_zeros : rest_of (false ∷ false ∷ []) ≡ Zeros
+pub left_zeros : rest_of (false ∷ false ∷ []) ≡ Ok tt
 unfolding records
 left_zeros = refl
 
-pub left_set : rest_of (false ∷ true ∷ []) ≡ BitSet
+pub left_set : rest_of (false ∷ true ∷ []) ≡ Err BitSet
 unfolding records
 left_set = refl
 
-pub left_byte : rest_of (bits_of (0 ∷ [])) ≡ ByteLeft
+pub left_byte : rest_of (bits_of (0 ∷ [])) ≡ Err ByteLeft
 unfolding records
 left_byte = refl

@@ -1,12 +1,10 @@
 -- What the public functions answer and leave, for every byte string, position and row.
-use Rattle.std.specs.Prelude.{Bool, true, false, ◌&&◌, cond, List, [], ◌∷◌, ℕ, ◌+◌, ◌-◌, ◌*◌, ◌^◌, min, leb, ltb, eqb, length, take, drop}
+use Rattle.std.specs.Prelude.{Bool, true, false, ◌&&◌, cond, List, [], ◌∷◌, ℕ, ◌+◌, ◌-◌, ◌*◌, ◌^◌, min, leb, ltb, eqb, length, take, drop, None, Option, Some}
 use Rattle.bits.specs.Packed.{bits_of, bytes_of, with_field}
 use Rattle.bits.specs.Faces.{widest}
 use Rattle.lent.specs.Lent.{laid}
 use Rattle.records.specs.Rows.{packed, unpacked, total}
 use Rattle.records.specs.Sealed.{sealed_size, sealed_record}
-use Rattle.records.specs.declared.Row.{Row}
-use Rattle.records.specs.declared.Row.TheVariants.{EndsAt, Untouched}
 
 -- the greatest bit position, a number of 64 bits
 abbrev pub last_position : ℕ
@@ -33,13 +31,8 @@ each_fits (w ∷ ws) [] = false
 each_fits (w ∷ ws) (v ∷ vs) = ltb v (2 ^ w) && each_fits ws vs
 
 -- the position behind a row, where it was put or taken
-abbrev pub ends : Bool → ℕ → List ℕ → Row
-ends done at ws = cond done (EndsAt (at + total ws)) Untouched
-
--- the position for the next row: behind this one, and where nothing was touched the one handed in
-abbrev pub next_after : Row → ℕ → ℕ
-next_after (EndsAt next) at = next
-next_after Untouched at = at
+abbrev pub ends : Bool → ℕ → List ℕ → Option ℕ
+ends done at ws = cond done (Some (at + total ws)) None
 
 -- a row can be put: its fields are there, and the numbers fit them
 unfoldable pub row_fits : ℕ → ℕ → List ℕ → List ℕ → Bool

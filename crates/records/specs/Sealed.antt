@@ -1,9 +1,9 @@
 -- A sealed record: bits filled up to whole bytes, and their check word behind them.
-use Rattle.std.specs.Prelude.{Bool, true, false, cond, List, [], ◌∷◌, ◌++◌, ℕ, ◌+◌, ◌-◌, ◌*◌, ◌/◌, leb, length, replicate}
+use Rattle.std.specs.Prelude.{Bool, true, false, cond, List, [], ◌∷◌, ◌++◌, ℕ, ◌+◌, ◌-◌, ◌*◌, ◌/◌, leb, length, replicate, Result, Ok, Err}
 use Rattle.bits.specs.Packed.{bytes_of}
 use Rattle.check_word.specs.Division.{word_size, seal}
-use Rattle.records.specs.declared.Rest.{Rest}
-use Rattle.records.specs.declared.Rest.TheVariants.{Zeros, ByteLeft, BitSet}
+use Rattle.records.specs.declared.Surplus.{Surplus}
+use Rattle.records.specs.declared.Surplus.TheVariants.{ByteLeft, BitSet}
 
 -- how many bits a byte has
 abbrev pub byte_width : ℕ
@@ -30,6 +30,6 @@ unfoldable pub some_set : List Bool → Bool
 some_set [] = false
 some_set (b ∷ bs) = elim b [ true ↦ true | false ↦ some_set bs ]
 
--- what the bits behind the last field are: a whole byte or more, fill with a bit set, or nothing but zeros
-unfoldable pub rest_of : List Bool → Rest
-rest_of bits = cond (leb byte_width (length bits)) ByteLeft (cond (some_set bits) BitSet Zeros)
+-- the bits behind the last field pass where they are fewer than eight zeros; else they are a whole byte or more, or fill with a bit set
+unfoldable pub rest_of : List Bool → Result Unit Surplus
+rest_of bits = cond (leb byte_width (length bits)) (Err ByteLeft) (cond (some_set bits) (Err BitSet) (Ok tt))

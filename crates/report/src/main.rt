@@ -2,8 +2,7 @@
 // A failed read, or a call with arguments, gets a line on standard error and no verdict. A failed write gets a line there too.
 #![tactic(auto)]
 
-ghost use Rattle.std.specs.Prelude.{◌-◌, ◌≤◌, length};
-ghost use Rattle.report.specs.Inside.Input.{Within};
+ghost use Rattle.std.specs.Prelude.{◌≤◌, length, IfOk};
 
 use report_text::ENOUGH;
 use std::env::{Env, FillError};
@@ -15,37 +14,18 @@ use std::{fs, io};
 // Standard output, as a path.
 const OUTPUT: &str = "/dev/stdout";
 
-// How many bytes were read, or why a read failed.
-#[derive(Clone, Copy)]
-enum Input {
-    Bytes(usize),
-    Failed(io::Error),
-}
-
-// One read into what follows the first `done` bytes of sheet. No byte is the end of the input.
-fn read_on(rt: &HostRuntime, sheet: &mut [u8], done: usize) -> Input
-    requires { done ≤ length sheet.old }
-    ensures { Within result (length sheet.old - done) }
-{
-    match rt.stdin().read(&mut sheet[done..]) {
-        Ok(n) => Input::Bytes(n),
-        Err(e) => Input::Failed(e),
-    }
-}
-
-// Reads until sheet is full or the input ends. A read that fails is no end of the input.
-fn read_sheet(rt: &HostRuntime, sheet: &mut [u8]) -> Input
-    ensures { Within result (length sheet.new) }
+// Reads until sheet is full or the input ends, which a read of no byte says. A read that fails is no end of the input.
+fn read_sheet(rt: &HostRuntime, sheet: &mut [u8]) -> io::Result<usize>
+    ensures { IfOk result (λ n. n ≤ length sheet.new) }
 {
     let mut done = 0;
     while done < sheet.len() {
-        match read_on(rt, sheet, done) {
-            Input::Bytes(0) => break,
-            Input::Bytes(more) => done += more,
-            failed => return failed,
+        match rt.stdin().read(&mut sheet[done..])? {
+            0 => break,
+            more => done += more,
         }
     }
-    Input::Bytes(done)
+    Ok(done)
 }
 
 // Some file systems tell of a failed write only when the file is stored. A regular file that can be opened anew is stored, nothing else.
@@ -72,9 +52,7 @@ fn fail(rt: &HostRuntime, what: &str, error: io::Error) -> ExitCode {
 
 fn print_report(rt: &HostRuntime, sheet: &[u8]) -> ExitCode {
     let text = report_text::report_text(sheet);
-    let length = text.length;
-    let bytes = text.bytes;
-    match print(rt, &bytes[..length]) {
+    match print(rt, &text) {
         Ok(()) => ExitCode::SUCCESS,
         Err(e) => fail(rt, "standard output cannot be written", e),
     }
@@ -88,7 +66,7 @@ fn main(rt: HostRuntime) -> ExitCode {
     }
     let mut sheet = [0u8; ENOUGH];
     match read_sheet(&rt, &mut sheet) {
-        Input::Bytes(n) => print_report(&rt, &sheet[..n]),
-        Input::Failed(e) => fail(&rt, "standard input cannot be read", e),
+        Ok(n) => print_report(&rt, &sheet[..n]),
+        Err(e) => fail(&rt, "standard input cannot be read", e),
     }
 }

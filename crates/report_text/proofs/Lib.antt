@@ -1,9 +1,6 @@
--- Laws of text put into room, line by line, and of the whole report.
-pub mod Put
+-- Laws of numbers in decimal, of the words of a line, and of the whole report.
 pub mod Decimal
 pub mod Line
 pub mod Lines
-pub mod Findings
-pub mod Whole
 pub mod Reported
-pub mod Printed
+pub mod Written

@@ -1,104 +1,70 @@
--- The lines of the report by their parts, and how long they are.
-use mathlib.Core.Bool.{true, false, not}
-use mathlib.Core.List.{List, [], ◌∷◌, ◌++◌, map, append_assoc}
-use mathlib.Core.Logic.{◌⊎◌, inl, inr}
-use mathlib.Core.Path.{◌≡◌}
-use Prim.Native.Nat.{ℕ, ◌-◌, ◌≤◌, ◌<◌}
-use native.Mathlib.Omega.{arith}
-use borrow.Author.Tests.{not-true, not-false}
-use lib.ListN.{length, take, length-append}
-use lib.Seq.{length-take-le}
-use Rattle.theory.proofs.Search.{bool_cases}
+-- The lines of the report, word by word, and how long they are.
+use Rattle.std.proofs.Common.{List, [], ◌∷◌, ◌++◌, ◌≡◌, ℕ, ◌+◌, ◌≤◌, ◌<◌, length, take, length-append, length-take, append_assoc, append-nil, arith, Option, Some, None, Result, Ok, Err}
+use Rattle.std.specs.List.{flat_map}
 use Rattle.sheet.specs.Refusals.{number_of}
+use Rattle.sheet.specs.declared.Refusal.{Refusal}
 use Rattle.analysis.specs.declared.Finding.{Finding}
-use Rattle.analysis.specs.declared.Outcome.{Outcome}
-use Rattle.analysis.specs.declared.Outcome.TheVariants.{Holds, Missed, Refused}
-use Rattle.order.specs.declared.Blocker.{Blocker}
-use Rattle.order.specs.declared.Blocker.TheVariants.{At, Nobody}
-use Rattle.report_text.specs.Words.{decimal, line, missed_word}
-use Rattle.report_text.specs.Report.{blocker_word, first_line, time_words}
-use Rattle.report_text.specs.Inside.TextPut.{TextPut, spaced, number_room, head_room, line_room, first_room}
-use Rattle.report_text.specs.Inside.Lines.{finding_line, Printable}
-use Rattle.report_text.proofs.Put.{put_then}
-use Rattle.report_text.proofs.Decimal.{decimal_length, number_length, two_digits}
-use Rattle.report_text.proofs.Line.{line_spaced, numbers_length}
+use Rattle.analysis.specs.declared.Verdict.{Verdict}
+use Rattle.analysis.specs.declared.Verdict.TheVariants.{Holds, Missed}
+use Rattle.report_text.specs.Words.{holds_word, missed_word, refused_word, decimal}
+use Rattle.report_text.specs.Report.{blocker_word, first_line}
+use Rattle.report_text.specs.Inside.Lines.{behind, found_words, finding_line, Printable, line_room, first_room}
+use Rattle.report_text.proofs.Decimal.{decimal_length, two_digits}
+use Rattle.report_text.proofs.Line.{line_behind, words_length}
 
-abbrev pub missed_end : List ℕ
-missed_end = 0x6D ∷ 0x69 ∷ 0x73 ∷ 0x73 ∷ 0x65 ∷ 0x64 ∷ 0x0A ∷ []
+-- ---- each line behind what stands on the page
 
--- ---- the line of a task
+apart : (page w a b c r end : List ℕ) → (((((page ++ w) ++ a) ++ b) ++ c) ++ r) ++ end ≡ page ++ (w ++ ((a ++ (b ++ (c ++ r))) ++ end))
+apart page w a b c r end = simp append_assoc
 
-module _ (f : Finding) where
-  abbrev pub head : List (List ℕ)
-  head = decimal f.number ∷ decimal f.period ∷ decimal f.deadline ∷ decimal f.blocked ∷ []
+module _ (page : List ℕ) where
+  pub holds_put : (n : ℕ) → ((page ++ holds_word) ++ behind (decimal n)) ++ (0x0A ∷ []) ≡ page ++ first_line (Ok Holds) n
+  unfolding first_line
+  holds_put n = rw (line_behind holds_word (decimal n ∷ [])) (simp append_assoc)
 
-  abbrev pub printed : List ℕ
-  printed = take f.frame_count f.times
+  pub missed_put : (n i : ℕ) (b : Option ℕ)
+      → ((((page ++ missed_word) ++ behind (decimal n)) ++ behind (decimal i)) ++ behind (blocker_word b)) ++ (0x0A ∷ [])
+      ≡ page ++ first_line (Ok (Missed i b)) n
+  unfolding first_line
+  missed_put n i b =
+      rw (line_behind missed_word (decimal n ∷ decimal i ∷ blocker_word b ∷ []), ← append-nil ((((page ++ missed_word) ++ behind (decimal n)) ++ behind (decimal i)) ++ behind (blocker_word b)))
+      (apart page missed_word (behind (decimal n)) (behind (decimal i)) (behind (blocker_word b)) [] (0x0A ∷ []))
 
-  line_missed : f.passes ≡ false → spaced head ++ missed_end ≡ finding_line f
-  unfolding finding_line line time_words
-  line_missed e = rw e (line_spaced head missed_word [])
+  pub refused_put : (r : Refusal) (n : ℕ) → ((page ++ refused_word) ++ behind (decimal (number_of r))) ++ (0x0A ∷ []) ≡ page ++ first_line (Err r) n
+  unfolding first_line
+  refused_put r n = rw (line_behind refused_word (decimal (number_of r) ∷ [])) (simp append_assoc)
 
-  of_times : (times : List ℕ) → 1 ≤ length times → spaced head ++ line (map decimal times) ≡ line (head ++ map decimal times)
-  of_times [] h = let z : ⊥ = omega arith in absurd z
-  of_times (t ∷ times) h = line_spaced head (decimal t) (map decimal times)
+  pub finding_put : (f : Finding)
+      → (((((page ++ decimal f.number) ++ behind (decimal f.period)) ++ behind (decimal f.deadline)) ++ behind (decimal f.blocked)) ++ flat_map behind (found_words f.times f.frame_count)) ++ (0x0A ∷ [])
+      ≡ page ++ finding_line f
+  unfolding finding_line
+  finding_put f =
+      rw (line_behind (decimal f.number) (decimal f.period ∷ decimal f.deadline ∷ decimal f.blocked ∷ found_words f.times f.frame_count))
+      (apart page (decimal f.number) (behind (decimal f.period)) (behind (decimal f.deadline)) (behind (decimal f.blocked)) _ (0x0A ∷ []))
 
-  line_times : 1 ≤ length printed → f.passes ≡ true → spaced head ++ line (map decimal printed) ≡ finding_line f
-  unfolding finding_line time_words
-  line_times h e = rw e (of_times printed h)
+-- ---- lengths
 
-  -- the line's two parts one behind the other
-  module _ {b : List ℕ} {at : ℕ} {c : List ℕ} {m : ℕ} {d : List ℕ} {n : ℕ} (room : at ≤ length b) (p : TextPut b at (spaced head) c m) where
-    pub put_missing : not f.passes ≡ true → TextPut c m missed_end d n → TextPut b at (finding_line f) d n
-    put_missing e q = rw (← line_missed (not-true _ e)) (put_then room p q)
+pub number_room : (page after : List ℕ) (n : ℕ) → n < 16 → after ≡ page ++ decimal n → length after ≤ length page + 2
+number_room page after n h e = rw (e, length-append) (omega (arith, two_digits n (omega arith)))
 
-    pub put_passing : 1 ≤ length printed → not f.passes ≡ false → TextPut c m (line (map decimal printed)) d n → TextPut b at (finding_line f) d n
-    put_passing h e q = rw (← line_times h (not-false _ e)) (put_then room p q)
-
-  module _ (h : Printable f) where
-    pub head_length : length (spaced head) ≤ head_room
-    unfolding spaced
-    head_length =
-        let few : f.number < 100 = omega (arith, h.known_number) in
-        simp length-append (omega (arith, simp length-append at (two_digits f.number 0x20 few), decimal_length f.period, decimal_length f.deadline, decimal_length f.blocked))
-
-    pub printed_length : length printed ≡ f.frame_count
-    printed_length = length-take-le f.frame_count f.times (omega (arith, h.few_frames, h.eight))
-
-    pub line_length : length (finding_line f) ≤ line_room
-    line_length = go (bool_cases f.passes)
-      where
-        go : (f.passes ≡ true) ⊎ (f.passes ≡ false) → length (finding_line f) ≤ line_room
-        go (inr e) = rw (← line_missed e, length-append) (omega (arith, head_length))
-        go (inl e) =
-            rw (← line_times (omega (arith, printed_length, h.some_frame)) e, length-append)
-            (omega (arith, head_length, printed_length, h.some_frame, h.few_frames, numbers_length printed (length printed - 1) (omega (arith, printed_length, h.some_frame))))
-
--- ---- the first line
-
-abbrev pub missed_space : List ℕ
-missed_space = 0x6D ∷ 0x69 ∷ 0x73 ∷ 0x73 ∷ 0x65 ∷ 0x64 ∷ 0x20 ∷ []
-
-pub word_length : (n b : ℕ) → length (missed_space ++ (decimal n ++ (b ∷ []))) ≤ 18
-word_length n b = omega (arith, number_length n b)
-
-pub missed_line : (n i : ℕ) (b : Blocker)
-    → missed_space ++ (decimal n ++ (0x20 ∷ [])) ++ (decimal i ++ (0x20 ∷ [])) ++ (blocker_word b ++ (0x0A ∷ []))
-    ≡ first_line (Missed i b) n
-unfolding first_line line
-missed_line n i b = simp append_assoc
-
-pub blocker_length : (b : Blocker) → length (blocker_word b ++ (0x0A ∷ [])) ≤ number_room
+blocker_length : (b : Option ℕ) → length (blocker_word b) ≤ 10
 unfolding blocker_word
-blocker_length (At b) = number_length b 0x0A
-blocker_length Nobody = omega arith
+blocker_length (Some b) = decimal_length b
+blocker_length None = omega arith
 
-missed_length : (n i : ℕ) (b : Blocker) → length (first_line (Missed i b) n) ≤ first_room
-missed_length n i b =
-    rw (← missed_line n i b, length-append (missed_space ++ (decimal n ++ (0x20 ∷ [])) ++ (decimal i ++ (0x20 ∷ []))) (blocker_word b ++ (0x0A ∷ [])), length-append (missed_space ++ (decimal n ++ (0x20 ∷ []))) (decimal i ++ (0x20 ∷ []))) (omega (arith, number_length n 0x20, number_length i 0x20, blocker_length b))
+pub first_line_length : (o : Result Verdict Refusal) (n : ℕ) → length (first_line o n) ≤ first_room
+first_line_length (Ok Holds) n = rw (← holds_put [] n, length-append) (omega (arith, decimal_length n))
+first_line_length (Ok (Missed i b)) n =
+    rw (← missed_put [] n i b, length-append, length-append, length-append) (omega (arith, decimal_length n, decimal_length i, blocker_length b))
+first_line_length (Err r) n = rw (← refused_put [] r n, length-append) (omega (arith, decimal_length (number_of r)))
 
-pub first_line_length : (o : Outcome) (n : ℕ) → length (first_line o n) ≤ first_room
-unfolding first_line line
-first_line_length Holds n = omega (arith, number_length n 0x0A)
-first_line_length (Missed i b) n = missed_length n i b
-first_line_length (Refused r) n = omega (arith, number_length (number_of r) 0x0A)
+found_length : (times : Option (List ℕ)) (n : ℕ) → n ≤ 8 → length (flat_map behind (found_words times n)) ≤ 88
+unfolding found_words
+found_length None n h = omega arith
+found_length (Some times) n h = omega (arith, words_length (take n times), length-take n times)
+
+module _ (f : Finding) (h : Printable f) where
+  pub line_length : length (finding_line f) ≤ line_room
+  line_length =
+      rw (← finding_put [] f, length-append, length-append, length-append, length-append, length-append)
+      (omega (arith, two_digits f.number (omega (arith, h.known_number)), decimal_length f.period, decimal_length f.deadline, decimal_length f.blocked, found_length f.times f.frame_count h.few_frames))

@@ -1,4 +1,5 @@
 -- A script changed within sixteen neighbouring bits is turned away.
+use Rattle.std.specs.Prelude.{Err}
 use mathlib.Core.Bool.{Bool, true, false, not, ◌&&◌, cond, and-false}
 use mathlib.Core.List.{List}
 use mathlib.Core.Path.{◌≡◌, ap, ◌∙◌}
@@ -15,7 +16,7 @@ use Rattle.plays.specs.Items.{item_checks}
 use Rattle.scripts.specs.Format.{script_width}
 use Rattle.scripts.specs.Reading.{entry_count_in, script_in, there, well_made}
 use Rattle.scripts.specs.Judging.{judged, judgement}
-use Rattle.scripts.specs.declared.Judgement.TheVariants.{Malformed}
+use Rattle.scripts.specs.declared.Flaw.TheVariants.{Malformed}
 use Rattle.scripts.proofs.Made.{made}
 
 unsealed : (n : ℕ) (s : List ℕ) → sealed s ≡ false → well_made n s ≡ false
@@ -33,7 +34,7 @@ damaged_script n s t k hs ht w l same ne = unsealed n t (detects_burst s t k hs 
 
 -- So it is turned away as such, whatever the tasks are.
 pub damaged_is_malformed : (tasks : List Task) (s t : List ℕ) (k : ℕ) → Bytes s → Bytes t → well_made (length tasks) s ≡ true → length s ≡ length t
-    → AgreeOutside k 16 (bits_of s) (bits_of t) → ¬ (s ≡ t) → judgement tasks t ≡ Malformed
+    → AgreeOutside k 16 (bits_of s) (bits_of t) → ¬ (s ≡ t) → judgement tasks t ≡ Err Malformed
 unfolding judgement
 damaged_is_malformed tasks s t k hs ht w l same ne =
-    ap (λ (b : Bool). cond b (judged (item_checks tasks (script_in (length tasks) t))) Malformed) (damaged_script (length tasks) s t k hs ht w l same ne)
+    ap (λ (b : Bool). cond b (judged (item_checks tasks (script_in (length tasks) t))) (Err Malformed)) (damaged_script (length tasks) s t k hs ht w l same ne)

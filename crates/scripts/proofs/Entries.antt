@@ -2,7 +2,7 @@
 use mathlib.Core.Bool.{Bool, true, false, ◌&&◌, cond}
 use mathlib.Core.List.{List}
 use mathlib.Core.Path.{◌≡◌, refl, sym, ap, ap₂, ◌∙◌}
-use Prim.Native.Nat.{ℕ, zero, suc, min, ◌+◌, ◌-◌, ◌*◌, ◌^◌, ◌≤◌, ◌<◌}
+use Prim.Native.Nat.{ℕ, zero, suc, min, ◌+◌, ◌*◌, ◌^◌, ◌≤◌, ◌<◌}
 use native.Mathlib.Nat.{suc-mul, min-eq_left, min-le_right}
 use native.Mathlib.Omega.{arith}
 use borrow.Author.Tests.{le-leb}
@@ -19,6 +19,7 @@ use Rattle.records.proofs.Packing.{length_unpacked}
 use Rattle.records.proofs.Parts.{laid_whole, take_replicate}
 use Rattle.sheet.specs.Constants.{most_tasks}
 use Rattle.plays.specs.Script.{no_entry}
+use Rattle.plays.specs.declared.Entry.{Entry}
 use Rattle.scripts.specs.Format.{first_frame_widths, entry_widths, script_width}
 use Rattle.scripts.specs.Reading.{firsts_in, entry_count_in, entry_with, entry_at_start, entries_in, script_in, there, first_frames, entry_count, entry_at, well_made}
 use Rattle.scripts.proofs.Widths.{firsts_width, entry_width, width_is, width_more, width_at, body_length, body_bits}
@@ -49,11 +50,9 @@ module _ (s : List ℕ) (n j : ℕ) (few : n < 2 ^ 32) (near : j < 2 ^ 32) where
       ap₂ (λ (b : Bool) (l : List ℕ). cond b l (replicate 4 0)) row_is
       (laid_whole (unpacked entry_widths (drop (script_width n j) bits)) (replicate 4 0) (sym (length_unpacked entry_widths (drop (script_width n j) bits))))
 
-  pub entry_taken : (end at : ℕ) (ws numbers : List ℕ) → end ≡ length s - 2 → at ≡ script_width n j → ws ≡ entry_widths → numbers ≡ taken_row (take end s) at ws (replicate 4 0)
-      → entry_with numbers ≡ entry_at n s j
-  unfolding body entry_with entry_at entry_at_start
-  entry_taken end at ws numbers e f v g =
-      ap entry_with (g ∙ ap (λ (us : List ℕ). taken_row (take end s) at us (replicate 4 0)) v ∙ ap₂ (λ (k m : ℕ). taken_row (take k s) m entry_widths (replicate 4 0)) e f ∙ numbers_are) ∙ go (there n (suc j) s)
+  pub entry_taken : (numbers : List ℕ) → numbers ≡ taken_row (body s) (script_width n j) entry_widths (replicate 4 0) → entry_with numbers ≡ entry_at n s j
+  unfolding entry_with entry_at entry_at_start
+  entry_taken numbers g = ap entry_with (g ∙ numbers_are) ∙ go (there n (suc j) s)
     where
       go : (b : Bool) → entry_with (cond b (unpacked entry_widths (drop (script_width n j) bits)) (replicate 4 0))
           ≡ cond b (entry_with (unpacked entry_widths (drop (script_width n j) bits))) no_entry
@@ -64,12 +63,12 @@ module _ (s : List ℕ) (n j : ℕ) (few : n < 2 ^ 32) (near : j < 2 ^ 32) where
 
 pub length_entries : (m : ℕ) (bits : List Bool) → length (entries_in m bits) ≡ m
 unfolding entries_in
-length_entries zero bits = refl
-length_entries (suc m) bits = ap suc (length_entries m (drop (total entry_widths) bits))
+length_entries zero bs = refl
+length_entries (suc m) bs = ap suc (length_entries m (drop (total entry_widths) bs))
 
 pub entry_in : (m j : ℕ) (bits : List Bool) → j < m → get_or (entries_in m bits) j no_entry ≡ entry_at_start (drop (j * total entry_widths) bits)
 unfolding entries_in
-entry_in zero j bits h = let z : ⊥ = omega arith in absurd z
+entry_in zero j bits h = absurd (omega arith)
 entry_in (suc m) zero bits h =
     let none_before : 0 ≡ 0 * total entry_widths = omega arith in
     ap (λ (k : ℕ). entry_at_start (drop k bits)) none_before
@@ -103,6 +102,10 @@ module _ (n : ℕ) (s : List ℕ) (w : well_made n s ≡ true) where
       ∙ sym (entry_in m j (drop (script_width n 0) bits) in_count
       ∙ ap entry_at_start (drop-drop (j * total entry_widths) (script_width n 0) bits ∙ ap (λ (k : ℕ). drop k bits) (width_at n j)))
 
+  -- so of an entry below the count that is read
+  pub read_is : {m j : ℕ} {e : Entry} → m ≡ entry_count n s → j < m → e ≡ entry_at n s j → (j < length (script_in n s).entries) × (e ≡ get_or (script_in n s).entries j no_entry)
+  read_is {m} {j} {e} c h r = let there : j < length (script_in n s).entries = omega (arith, count_of_entries) in (there, r ∙ entry_is j there)
+
 -- ---- the first frames of a script
 
 module _ (n : ℕ) (s : List ℕ) where
@@ -120,12 +123,11 @@ module _ (n : ℕ) (s : List ℕ) where
   all_lawful zero = refl
   all_lawful (suc m) = all_lawful m
 
-  pub firsts_taken : (end count : ℕ) (ws : List ℕ) → end ≡ length s - 2 → count ≡ min n most_tasks → ws ≡ first_frame_widths most_tasks
-      → taken_row (take end s) 0 (take count ws) (replicate most_tasks 0) ≡ first_frames n s
-  unfolding first_frames body
-  firsts_taken end count ws e c v =
-      let widths : take count ws ≡ first_frame_widths (min n most_tasks) = ap₂ take c v ∙ take_replicate (min n most_tasks) most_tasks 4 (min-le_right n most_tasks) in
-      ap₂ (λ (k : ℕ) (us : List ℕ). taken_row (take k s) 0 us (replicate most_tasks 0)) e widths
+  pub firsts_taken : (count : ℕ) (ws : List ℕ) → count ≡ min n most_tasks → ws ≡ first_frame_widths most_tasks
+      → taken_row (body s) 0 (take count ws) (replicate most_tasks 0) ≡ first_frames n s
+  unfolding first_frames
+  firsts_taken count ws c v =
+      ap (λ (us : List ℕ). taken_row (body s) 0 us (replicate most_tasks 0)) (ap₂ take c v ∙ take_replicate (min n most_tasks) most_tasks 4 (min-le_right n most_tasks))
 
   -- of a script they are its first frames
   pub firsts_there : n ≤ most_tasks → well_made n s ≡ true → first_frames n s ≡ laid (firsts_in n (bits_of (body s))) (replicate most_tasks 0)

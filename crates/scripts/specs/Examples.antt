@@ -1,6 +1,6 @@
 -- Scripts worked by hand, computed from the definitions.
 use Rattle.std.proofs.Math.Bool.{xor}
-use Rattle.std.specs.Prelude.{List, [], ◌∷◌, ◌≡◌, refl, ℕ}
+use Rattle.std.specs.Prelude.{List, [], ◌∷◌, ◌≡◌, refl, ℕ, Ok, Err}
 use Rattle.bits.specs.Packed.{value, digits, bits_of, bytes_of}
 use Rattle.check_word.specs.Division.{added, polynomial, divided, remainder, started, check_word, seal, body, sealed}
 use Rattle.lent.specs.Checks.{first_refusal}
@@ -14,7 +14,7 @@ use Rattle.scripts.specs.Format.{script_width}
 use Rattle.scripts.specs.Reading.{firsts_in, entry_count_in, entry_with, entry_at_start, entries_in, script_in, there, well_made}
 use Rattle.scripts.specs.Writing.{entries_bits, script_bits, script_of}
 use Rattle.scripts.specs.Judging.{judged, judgement}
-use Rattle.scripts.specs.declared.Judgement.TheVariants.{Sound, Malformed, Unsound}
+use Rattle.scripts.specs.declared.Flaw.TheVariants.{Malformed, Item}
 
 -- frames 2 and 1 every 4 ticks with Q 1, and one frame 3 every 8 ticks
 abbrev pub two_tasks : List Task
@@ -60,36 +60,36 @@ pub three_read : script_in 2 (bytes_with 0xD4) ≡ three_releases
 unfolding reads
 three_read = refl
 
-pub three_are_sound : judgement two_tasks (bytes_with 0xD4) ≡ Sound
+pub three_are_sound : judgement two_tasks (bytes_with 0xD4) ≡ Ok tt
 unfolding judges
 three_are_sound = refl
 
 -- a bit of the check word changed
-pub check_word_wrong : judgement two_tasks (bytes_with 0xD5) ≡ Malformed
+pub check_word_wrong : judgement two_tasks (bytes_with 0xD5) ≡ Err Malformed
 unfolding judges
 check_word_wrong = refl
 
 -- task 0 has no frame 2: item 0
-pub no_such_frame : judgement two_tasks (script_of (with_entries 2 [])) ≡ Unsound 0
+pub no_such_frame : judgement two_tasks (script_of (with_entries 2 [])) ≡ Err (Item 0)
 unfolding judges
 no_such_frame = refl
 
 -- frame 1 of task 0 has time 1: item 2, the first entry
-pub too_much_work : judgement two_tasks (script_of (with_entries 1 (entry 0 0 2 0 ∷ []))) ≡ Unsound 2
+pub too_much_work : judgement two_tasks (script_of (with_entries 1 (entry 0 0 2 0 ∷ []))) ≡ Err (Item 2)
 unfolding judges
 too_much_work = refl
 
 -- a lock of 1 over a Q of 0
-pub lock_over : judgement two_tasks (script_of (with_entries 1 (entry 1 0 3 1 ∷ []))) ≡ Unsound 2
+pub lock_over : judgement two_tasks (script_of (with_entries 1 (entry 1 0 3 1 ∷ []))) ≡ Err (Item 2)
 unfolding judges
 lock_over = refl
 
 -- of the same tick, task 1 before task 0: the later entry
-pub out_of_order : judgement two_tasks (script_of (with_entries 1 (entry 1 0 3 0 ∷ entry 0 0 1 0 ∷ []))) ≡ Unsound 3
+pub out_of_order : judgement two_tasks (script_of (with_entries 1 (entry 1 0 3 0 ∷ entry 0 0 1 0 ∷ []))) ≡ Err (Item 3)
 unfolding judges
 out_of_order = refl
 
 -- three ticks after the release before it
-pub too_close : judgement two_tasks (script_of (with_entries 1 (entry 0 0 1 0 ∷ entry 0 3 1 0 ∷ []))) ≡ Unsound 3
+pub too_close : judgement two_tasks (script_of (with_entries 1 (entry 0 0 1 0 ∷ entry 0 3 1 0 ∷ []))) ≡ Err (Item 3)
 unfolding judges
 too_close = refl

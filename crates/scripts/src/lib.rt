@@ -1,10 +1,10 @@
 // Run scripts in bytes: read and judged where they lie, and put into lent bytes field by field.
 #![tactic(auto)]
 
-ghost use Rattle.std.specs.Prelude.{true, map, ◌≡◌, ◌-◌, ◌≤◌, ◌<◌, take};
-ghost use Rattle.std.proofs.Math.Option.{none};
+ghost use Rattle.std.specs.Prelude.{true, map, ◌≡◌, ◌≤◌, ◌<◌, length, take, nat_le, position, None};
+ghost use Rattle.std.specs.List.{zip};
 ghost use Rattle.bits.specs.Faces.{taken};
-ghost use Rattle.check_word.specs.Division.{word_size, body};
+ghost use Rattle.check_word.specs.Division.{body};
 ghost use Rattle.lent.specs.Checks.{first_refusal};
 ghost use Rattle.records.specs.Rows.{total};
 ghost use Rattle.records.specs.Sealed.{sealed_size};
@@ -18,17 +18,14 @@ ghost use Rattle.scripts.specs.Writing.{entry_numbers};
 ghost use Rattle.scripts.specs.Judging.{judged, judgement};
 ghost use Rattle.scripts.specs.Inside.Steps.{sound_turn, turn_after};
 
-use bits::Taken;
 use plays::Entry;
-use records::Rest;
 use sheet::{Sheet, Task, TaskSet};
 
-// How a script is judged: sound, not made as a script is, or by the first item turned away, first frames and entries counted together from 0.
-#[derive(Clone, Copy)]
-pub enum Judgement {
-    Sound,
+// Why a byte string is turned away: it is not made as a script is, or by its first item that is, first frames and entries counted together from 0.
+#[derive(Clone, Copy, Debug, PartialEq, Eq)]
+pub enum Flaw {
     Malformed,
-    Unsound(u32),
+    Item(u32),
 }
 
 // The constants of a script.
@@ -97,23 +94,19 @@ pub fn script_size(tasks: u32, entries: u32) -> usize
     records::sealed_size(script_width(tasks, entries))
 }
 
-// How many bytes stand before the check word.
-fn body_size(len: usize) -> usize
-    ensures { result ≡ len - word_size }
+// The bytes before the check word.
+fn body(script: &[u8]) -> &[u8]
+    ensures { result.now ≡ body script.now }
 {
-    if len < check_word::SIZE {
-        return 0;
-    }
-    len - check_word::SIZE
+    &script[..script.len().saturating_sub(check_word::SIZE)]
 }
 
 // The count of entries, where it is there.
-fn count_taken(script: &[u8], tasks: u32) -> Taken
+fn count_taken(script: &[u8], tasks: u32) -> Option<u32>
     ensures { result ≡ taken (body script.now) (total (first_frame_widths tasks)) entry_count_width }
 {
-    let end = body_size(script.len());
     bits::take_field(
-        &script[..end],
+        body(script),
         Format::FIRST_FRAME_WIDTH * tasks as usize,
         Format::ENTRY_COUNT_WIDTH,
     )
@@ -123,10 +116,7 @@ fn count_taken(script: &[u8], tasks: u32) -> Taken
 pub fn entry_count(script: &[u8], tasks: u32) -> u32
     ensures { result ≡ entry_count tasks script.now }
 {
-    match count_taken(script, tasks) {
-        Taken::Value(count) => count,
-        Taken::Outside => 0,
-    }
+    count_taken(script, tasks).unwrap_or(0)
 }
 
 // Entry j of a script of so many tasks; a blank one where its bits are not there.
@@ -135,13 +125,7 @@ pub fn entry_at(script: &[u8], tasks: u32, j: u32) -> Entry
 {
     let mut numbers = [0u32; Format::ENTRY_FIELDS];
     let widths = Format::entry_widths();
-    let end = body_size(script.len());
-    records::take_row(
-        &script[..end],
-        script_width(tasks, j),
-        &widths,
-        &mut numbers,
-    );
+    records::take_row(body(script), script_width(tasks, j), &widths, &mut numbers);
     Entry {
         task: numbers[Format::TASK_FIELD],
         tick: numbers[Format::TICK_FIELD],
@@ -166,18 +150,12 @@ pub fn entry_numbers(entry: Entry) -> [u32; Format::ENTRY_FIELDS]
 fn well_made(script: &[u8], tasks: u32) -> bool
     ensures { result ≡ well_made tasks script.now }
 {
-    let Taken::Value(count) = count_taken(script, tasks) else {
+    let Some(count) = count_taken(script, tasks) else {
         return false;
     };
-    if script.len() != script_size(tasks, count) {
-        return false;
-    }
-    let end = body_size(script.len());
-    match records::left_behind(&script[..end], script_width(tasks, count)) {
-        Rest::ByteLeft => false,
-        Rest::BitSet => false,
-        Rest::Zeros => check_word::sealed(script),
-    }
+    script.len() == script_size(tasks, count)
+        && records::left_behind(body(script), script_width(tasks, count)).is_ok()
+        && check_word::sealed(script)
 }
 
 // The first frames of a script of so many tasks, of no more than there are slots for; 0 where they are not there.
@@ -186,38 +164,34 @@ pub fn first_frames(script: &[u8], tasks: u32) -> [u32; Sheet::TASK_ROOM]
 {
     let mut firsts = [0u32; Sheet::TASK_ROOM];
     let widths = Format::first_frame_widths();
-    let end = body_size(script.len());
     let in_use = sheet::in_use(tasks as usize, Sheet::TASK_ROOM);
-    records::take_row(&script[..end], 0, &widths[..in_use], &mut firsts);
+    records::take_row(body(script), 0, &widths[..in_use], &mut firsts);
     firsts
 }
 
-// Whether each first frame is a frame of its task.
-fn judge_firsts(
-    tasks: [Task; Sheet::TASK_ROOM],
-    count: usize,
-    firsts: [u32; Sheet::TASK_ROOM],
-) -> Judgement
-    requires { count ≤ most_tasks }
-    ensures { result ≡ judged (first_frame_checks (map task_in (take count tasks)) 0 (take count firsts)) }
+// The first of some first frames that is no frame of its task.
+fn wrong_first(tasks: &[Task], firsts: &[u32]) -> Option<usize>
+    ensures { result ≡ position (λ q. nat_le (frame_count (task_in q.0)) q.1) (zip tasks.now firsts.now) }
 {
-    let mut i: usize = 0;
-    while i < count {
-        let task = tasks[i];
-        if sheet::frame_count(task) <= firsts[i] as usize {
-            return Judgement::Unsound(i as u32);
-        }
-        i += 1;
-    }
-    Judgement::Sound
+    tasks.iter().zip(firsts).position(|(&task, &first)| sheet::frame_count(task) <= first as usize)
 }
 
-// How far the releases of a task have come: the frame of its next job, the first tick at which it may be released, and the least standing of the next entry.
-#[derive(Clone, Copy)]
+// Whether each first frame is a frame of its task.
+fn judge_firsts(tasks: &[Task], firsts: &[u32]) -> Result<(), Flaw>
+    requires { (length tasks.now ≤ most_tasks) × (length firsts.now ≡ length tasks.now) }
+    ensures { result ≡ judged (first_frame_checks (map task_in tasks.now) 0 firsts.now) }
+{
+    match wrong_first(tasks, firsts) {
+        Some(i) => Err(Flaw::Item(i as u32)),
+        None => Ok(()),
+    }
+}
+
+// How far the releases of a task have come: the frame of its next job, and the first tick at which it may be released.
+#[derive(Clone, Copy, Debug, Default, PartialEq, Eq)]
 struct Turn {
     next: u32,
     free_from: u64,
-    behind: u64,
 }
 
 // Where an entry stands, by tick and then task number.
@@ -227,30 +201,15 @@ fn standing(entry: Entry) -> u64
     entry.tick as u64 * Sheet::MOST_TASKS as u64 + entry.task as u64
 }
 
-// The time of a frame that a task has.
-fn frame(task: Task, k: u32) -> u32
-    requires { k < frame_count (task_in task) }
-    ensures { result ≡ frame (task_in task) k }
-{
-    let frames = task.frames;
-    frames[k as usize]
-}
-
-// Whether an entry of a task is in range, in order and by the run rules.
-fn sound(task: Task, turn: Turn, entry: Entry) -> bool
+// Whether an entry of a task is in range, in order behind the last one, and by the run rules.
+fn sound(task: Task, turn: Turn, behind: u64, entry: Entry) -> bool
     requires { turn.next < frame_count (task_in task) }
-    ensures { result ≡ sound_turn (task_in task) turn entry }
+    ensures { result ≡ sound_turn (task_in task) turn behind entry }
 {
-    if task.lock < entry.lock {
-        return false;
-    }
-    if standing(entry) < turn.behind {
-        return false;
-    }
-    if (entry.tick as u64) < turn.free_from {
-        return false;
-    }
-    entry.work <= frame(task, turn.next)
+    entry.lock <= task.lock
+        && behind <= standing(entry)
+        && turn.free_from <= entry.tick as u64
+        && entry.work <= task.frames[turn.next as usize]
 }
 
 // How far they have come behind that entry.
@@ -261,64 +220,42 @@ fn after(task: Task, turn: Turn, entry: Entry) -> Turn
     Turn {
         next: sheet::frame_after(task, turn.next),
         free_from: entry.tick as u64 + task.period as u64,
-        behind: standing(entry) + 1,
     }
 }
 
 // The entries of a script in their order, where its first frames are frames of their tasks.
-fn judge_entries(
-    tasks: [Task; Sheet::TASK_ROOM],
-    count: u32,
-    firsts: [u32; Sheet::TASK_ROOM],
-    script: &[u8],
-) -> Judgement
-    requires { (count ≤ most_tasks) × (well_made count script.now ≡ true) × (first_refusal (first_frame_checks (map task_in (take count tasks)) 0 (take count firsts)) ≡ none) }
-    ensures { result ≡ judged (entry_checks (map task_in (take count tasks)) count (first_ledger (take count firsts)) (script_in count script.now).entries) }
+fn judge_entries(tasks: &[Task], firsts: [u32; Sheet::TASK_ROOM], script: &[u8]) -> Result<(), Flaw>
+    requires { (length tasks.now ≤ most_tasks) × (well_made (length tasks.now) script.now ≡ true) × (first_refusal (first_frame_checks (map task_in tasks.now) 0 (take (length tasks.now) firsts)) ≡ None) }
+    ensures { result ≡ judged (entry_checks (map task_in tasks.now) (length tasks.now) (first_ledger (take (length tasks.now) firsts)) (script_in (length tasks.now) script.now).entries) }
 {
-    let entries = entry_count(script, count);
-    let mut next = firsts;
-    let mut free_from = [0u64; Sheet::TASK_ROOM];
+    let count = tasks.len() as u32;
+    let mut turns = firsts.map(|next| Turn { next, free_from: 0 });
     let mut behind: u64 = 0;
-    let mut j: u32 = 0;
-    while j < entries {
+    for j in 0..entry_count(script, count) {
         let entry = entry_at(script, count, j);
-        if count <= entry.task {
-            return Judgement::Unsound(count + j);
-        }
         let i = entry.task as usize;
-        let task = tasks[i];
-        let turn = Turn {
-            next: next[i],
-            free_from: free_from[i],
-            behind,
+        let Some(&task) = tasks.get(i) else {
+            return Err(Flaw::Item(count + j));
         };
-        if !sound(task, turn, entry) {
-            return Judgement::Unsound(count + j);
+        if !sound(task, turns[i], behind, entry) {
+            return Err(Flaw::Item(count + j));
         }
-        let then = after(task, turn, entry);
-        next[i] = then.next;
-        free_from[i] = then.free_from;
-        behind = then.behind;
-        j += 1;
+        turns[i] = after(task, turns[i], entry);
+        behind = standing(entry) + 1;
     }
-    Judgement::Sound
+    Ok(())
 }
 
 // How a byte string is judged as a script of a set's tasks.
-pub fn judge(set: TaskSet, script: &[u8]) -> Judgement
+pub fn judge(set: TaskSet, script: &[u8]) -> Result<(), Flaw>
     ensures { result ≡ judgement (map task_in (records_of set)) script.now }
 {
-    let count = sheet::in_use(set.task_count as usize, Sheet::TASK_ROOM);
-    let n = count as u32;
-    if !well_made(script, n) {
-        return Judgement::Malformed;
+    let tasks = set.tasks_in_use();
+    let count = tasks.len();
+    if !well_made(script, count as u32) {
+        return Err(Flaw::Malformed);
     }
-    let tasks = set.tasks;
-    let firsts = first_frames(script, n);
-    match judge_firsts(tasks, count, firsts) {
-        Judgement::Sound => judge_entries(tasks, n, firsts, script),
-        Judgement::Unsound(i) => Judgement::Unsound(i),
-        // never: first frames are judged only where the bytes are made as a script is
-        Judgement::Malformed => Judgement::Malformed,
-    }
+    let firsts = first_frames(script, count as u32);
+    judge_firsts(tasks, &firsts[..count])?;
+    judge_entries(tasks, firsts, script)
 }

@@ -1,4 +1,5 @@
 -- An admitted set, and the set of an admitted sheet, is a set that the analysis is about: admitted in the sense of the theory.
+use Rattle.std.specs.Prelude.{Ok}
 use Rattle.std.proofs.Common.{◌≡◌, ℕ, zero, suc, ◌%◌, ◌<◌, ◌≤◌, Bool, true, leb, List, map, length, mod-lt, arith, leb-true}
 use mathlib.Core.Bool.{and-eq-true_iff}
 use Rattle.theory.specs.Tasks.{Task, task_at, frame_count, frame, largest, qualifies, AdmittedTask}
@@ -6,10 +7,9 @@ use Rattle.theory.specs.Tasks.{Admitted as IsAdmitted}
 use Rattle.theory.proofs.Laws.{monotonic_test}
 use Rattle.sheet.specs.Constants.{most_tasks, greatest_time}
 use Rattle.sheet.specs.Tasks.{task_in, records_of}
-use Rattle.sheet.specs.Admission.{all, is_time, lock_fits, monotonic, admission}
-use Rattle.sheet.specs.Reading.{tasks_of, reading}
+use Rattle.sheet.specs.Admission.{all, is_time, lock_fits, monotonic, decided, admission}
+use Rattle.sheet.specs.Reading.{sheet_checks, tasks_of}
 use Rattle.sheet.specs.declared.TaskSet.{TaskSet}
-use Rattle.sheet.specs.declared.Answer.TheVariants.{Admitted}
 use Rattle.sheet.proofs.InFields.{Each, no_task, task_more, each_map, Formed, each_formed, range_of, some_searched, all_at, as_many_formed, frame_below, deadline_below}
 use Rattle.sheet.proofs.Carried.{Carried, by_admission, by_reading}
 
@@ -58,9 +58,9 @@ carried_admitted : {policy : ℕ} {ts : List Task} → Carried policy ts → IsA
 carried_admitted {ts} c = record { some_task = c.some_task; each_task = each_at (each_map task_admitted (each_formed 0 ts c.formed)) }
 
 -- The tasks of an admitted set are admitted in the sense of the theory.
-pub admitted_set_is_admitted : (s : TaskSet) → length s.tasks ≡ most_tasks → admission s ≡ Admitted → IsAdmitted (map task_in (records_of s))
+pub admitted_set_is_admitted : (s : TaskSet) → length s.tasks ≡ most_tasks → admission s ≡ Ok tt → IsAdmitted (map task_in (records_of s))
 admitted_set_is_admitted s room e = carried_admitted (by_admission s room e)
 
 -- So are those of an admitted sheet.
-pub admitted_sheet_is_admitted : (s : List ℕ) → (reading s).answer ≡ Admitted → IsAdmitted (tasks_of s)
+pub admitted_sheet_is_admitted : (s : List ℕ) → decided (sheet_checks s) ≡ Ok tt → IsAdmitted (tasks_of s)
 admitted_sheet_is_admitted s a = carried_admitted (by_reading s a)

@@ -1,4 +1,5 @@
 -- The numbers of a task that passes fit their fields: what 7, 9, 10 and 11 test, and what follows for the widths.
+use Rattle.std.specs.Prelude.{Ok}
 use Rattle.std.proofs.Common.{◌≡◌, ℕ, zero, suc, ◌^◌, ◌<◌, ◌≤◌, Bool, true, ◌&&◌, leb, ◌↔◌, List, [], ◌∷◌, length, get_or, refl, ap, arith, leb-true}
 use mathlib.Core.Bool.{and-eq-true_iff, false≢true}
 use borrow.Author.Tests.{not-false}
@@ -7,7 +8,6 @@ use Rattle.theory.specs.Tasks.{Task, frame_count, frame, deadline_of, qualifies}
 use Rattle.theory.proofs.Laws.{frame_at, deadline_at}
 use Rattle.sheet.specs.Constants.{most_frames, greatest_time, time_width}
 use Rattle.sheet.specs.Admission.{decided, all, is_time, in_range, none_above, well_formed, lock_fits, monotonic, task_checks}
-use Rattle.sheet.specs.declared.Answer.TheVariants.{Admitted}
 use Rattle.sheet.proofs.Checks.{passed}
 use Rattle.records.proofs.Packing.{no_field, one_more}
 pub use Rattle.sheet.proofs.Each.{Each, no_task, task_more, each_map, each_both}
@@ -138,7 +138,7 @@ pub record Formed (t : Task) : Type 0 where
   pub locked : lock_fits t ≡ true
   pub starts : monotonic t ≡ true
 
-pub each_formed : (i : ℕ) (ts : List Task) → decided (task_checks i ts) ≡ Admitted → Each Formed ts
+pub each_formed : (i : ℕ) (ts : List Task) → decided (task_checks i ts) ≡ Ok tt → Each Formed ts
 unfolding task_checks
 each_formed i [] e = no_task
 each_formed i (t ∷ ts) e =
@@ -151,5 +151,5 @@ each_formed i (t ∷ ts) e =
     (each_formed (suc i) ts eleven.1)
 
 -- tasks with at most eight frames each that pass 9, 10 and 11
-pub tasks_in_fields : (i : ℕ) (ts : List Task) → decided (task_checks i ts) ≡ Admitted → Each FewFrames ts → Each InFields ts
+pub tasks_in_fields : (i : ℕ) (ts : List Task) → decided (task_checks i ts) ≡ Ok tt → Each FewFrames ts → Each InFields ts
 tasks_in_fields i ts e few = each_both (λ t f h. task_in_fields t f.ranged f.well f.starts h) (each_formed i ts e) few

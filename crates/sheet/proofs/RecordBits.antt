@@ -1,4 +1,5 @@
 -- Header and task records in bits, both ways: what was written is found where the layout says, and what is found writes to the same bits.
+use Rattle.std.specs.Prelude.{Ok}
 use Rattle.std.proofs.Common.{◌≡◌, ℕ, zero, suc, ◌+◌, ◌*◌, ◌%◌, ◌^◌, ◌<◌, ◌≤◌, Bool, true, false, ◌||◌, eqb, List, [], ◌∷◌, ◌++◌, length, get_or, take, drop, replicate, sym, refl, ap, ◌∙◌, ap₂, append_assoc, mod-lt, one-mul, arith, lit<, length-append, length-drop, take-append-drop, take-add, drop_at, ltb-false, le-ltb, eq-eqb, eqb-true, leb-false}
 use mathlib.Core.Bool.{and-eq-true_iff}
 use borrow.Author.Tests.{lt-leb}
@@ -13,7 +14,6 @@ use Rattle.sheet.specs.Layout.{Header, header_in, behind_header, frame_count_in,
 use Rattle.sheet.specs.Admission.{all, decided, frame_count_check}
 use Rattle.sheet.specs.Reading.{layout_checks}
 use Rattle.sheet.specs.Writing.{header_bits, fixed_numbers, frame_numbers, task_bits, tasks_bits, one_deadline, one_deadline_each}
-use Rattle.sheet.specs.declared.Answer.TheVariants.{Admitted}
 use Rattle.records.proofs.Packing.{Fit, no_field, one_more, length_packed, length_unpacked, unpacked_packed, packed_unpacked}
 use Rattle.records.proofs.Filling.{zeros_unset, unset_zeros}
 use Rattle.sheet.proofs.Checks.{passed_over, passed, no_check}
@@ -286,7 +286,7 @@ pub record LaidOut (own : Bool) (n : ℕ) (bits : List Bool) : Type 0 where
   pub bits_are : bits ≡ tasks_bits own (tasks_in own n bits) ++ replicate fill false
   pub counted : Each FramesCounted (tasks_in own n bits)
 
-pub layout_read : (own : Bool) (i n : ℕ) (bits : List Bool) → decided (layout_checks own i n bits) ≡ Admitted → LaidOut own n bits
+pub layout_read : (own : Bool) (i n : ℕ) (bits : List Bool) → decided (layout_checks own i n bits) ≡ Ok tt → LaidOut own n bits
 unfolding layout_checks frame_count_check tasks_in tasks_bits
 layout_read own i zero bits e =
     let few = passed _ _ e in
@@ -323,7 +323,7 @@ first_written own i n t rest h =
 
 -- records that were written, with fewer than eight zeros behind them, are laid out well
 pub layout_written : (own : Bool) (i : ℕ) (ts : List Task) (fill : ℕ) → Each InFields ts → fill < 8
-    → decided (layout_checks own i (length ts) (tasks_bits own ts ++ replicate fill false)) ≡ Admitted
+    → decided (layout_checks own i (length ts) (tasks_bits own ts ++ replicate fill false)) ≡ Ok tt
 unfolding layout_checks tasks_bits
 layout_written own i [] fill no_task h =
     let short : length (replicate fill false) < 8 = rw length-replicate h in

@@ -1,4 +1,5 @@
 -- A whole sheet in bits, both ways: the sheet of tasks that pass is read as it was written, and an admitted byte string is header, records and fill of what it carries.
+use Rattle.std.specs.Prelude.{Ok}
 use Rattle.std.proofs.Common.{◌≡◌, ℕ, ◌-◌, ◌^◌, ◌<◌, ◌≤◌, Bool, true, false, not, ◌||◌, eqb, ltb, List, ◌++◌, length, replicate, sym, ap, ◌∙◌, ap₂, append_assoc, arith, take-append-drop, length-take-le, le-leb}
 use Rattle.bits.specs.Packed.{Bytes, bits_of}
 use Rattle.bits.proofs.Laws.{length_bits, bytes_take}
@@ -17,13 +18,12 @@ use Rattle.sheet.specs.Admission.{decided, known_policy, policy_check, task_coun
 use Rattle.sheet.specs.Reading.{layout_checks, version_among, checks_among, version_of, policy_of, tasks_of, reading_among}
 use Rattle.sheet.specs.Writing.{header_bits, tasks_bits, sheet_of}
 use Rattle.sheet.specs.declared.Reading.{Reading}
-use Rattle.sheet.specs.declared.Answer.TheVariants.{Admitted}
 use Rattle.sheet.proofs.Checks.{admitted_first, passed_over}
 use Rattle.sheet.proofs.Counts.{count_passes, policy_passes, known_small}
 use Rattle.sheet.proofs.RecordBits.{Held, header_written, records_written, header_read, tasks_written, layout_written, length_tasks_in}
 use Rattle.sheet.proofs.Sizes.{size_between}
 use Rattle.sheet.proofs.Each.{Each}
-use Rattle.sheet.proofs.Carried.{Carried, carried_fit, carried_many, PassedSheet, answer_among, admitted_among}
+use Rattle.sheet.proofs.Carried.{Carried, carried_fit, carried_many, PassedSheet, admitted_among}
 
 -- ---- from a set to its sheet and back
 
@@ -74,7 +74,7 @@ module _ (version policy : ℕ) (ts : List Task) (small : version < 2 ^ version_
   unfolding sheet_of sealed_record set_bits
   is_sealed = sealed_seal (whole_bytes (set_bits version policy ts))
 
-  checks_admit : (least most : ℕ) → version_among least most version ≡ true → decided (checks_among least most (sheet_of version policy ts)) ≡ Admitted
+  checks_admit : (least most : ℕ) → version_among least most version ≡ true → decided (checks_among least most (sheet_of version policy ts)) ≡ Ok tt
   unfolding checks_among policy_check task_count_check the_header records_and_fill fill
   checks_admit least most known =
       let s = sheet_of version policy ts in
@@ -98,12 +98,12 @@ module _ (version policy : ℕ) (ts : List Task) (small : version < 2 ^ version_
 
   -- A sheet of 1 to 16 tasks that pass every check and that its version can hold is read as it was written.
   pub sheet_is_read : (least most : ℕ) → version_among least most version ≡ true
-      → reading_among least most (sheet_of version policy ts) ≡ record { answer = Admitted; version = version; set = set_with policy ts }
+      → reading_among least most (sheet_of version policy ts) ≡ Ok (record { version = version; set = set_with policy ts })
   sheet_is_read least most known =
       let s = sheet_of version policy ts in
-      admitted_among least most s (answer_among least most s ∙ checks_admit least most known)
-      ∙ ap (λ (v : ℕ). let r : Reading = record { answer = Admitted; version = v; set = set_with (policy_of s) (tasks_of s) } in r) version_is
-      ∙ ap₂ (λ (p : ℕ) (us : List Task). let r : Reading = record { answer = Admitted; version = version; set = set_with p us } in r) policy_is tasks_are
+      admitted_among least most s (checks_admit least most known)
+      ∙ ap (λ (v : ℕ). let r : Reading = record { version = v; set = set_with (policy_of s) (tasks_of s) } in Ok r) version_is
+      ∙ ap₂ (λ (p : ℕ) (us : List Task). let r : Reading = record { version = version; set = set_with p us } in Ok r) policy_is tasks_are
 
 -- ---- from a sheet to its set and back
 

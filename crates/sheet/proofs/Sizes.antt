@@ -1,4 +1,5 @@
 -- How long a sheet is. The least and greatest sizes, 15 and 732 bytes, are computed from the widths and limits.
+use Rattle.std.specs.Prelude.{Ok}
 use Rattle.std.proofs.Common.{◌≡◌, ℕ, ◌+◌, ◌*◌, ◌≤◌, Bool, true, false, List, [], ◌∷◌, ◌++◌, map, length, replicate, sym, refl, ap, ◌∙◌, ap₂, arith, length-append}
 use Rattle.records.specs.Rows.{total}
 use Rattle.records.specs.Sealed.{sealed_size}
@@ -10,7 +11,6 @@ use Rattle.sheet.specs.Tasks.{task_in, records_of}
 use Rattle.sheet.specs.Admission.{admission}
 use Rattle.sheet.specs.Writing.{header_bits, task_bits, tasks_bits, sheet_of, sheet_bytes}
 use Rattle.sheet.specs.declared.TaskSet.{TaskSet}
-use Rattle.sheet.specs.declared.Answer.TheVariants.{Admitted}
 use Rattle.records.proofs.Packing.{total_replicate}
 use Rattle.sheet.proofs.Each.{Each, no_task, task_more}
 use Rattle.sheet.proofs.Records.{AsMany}
@@ -100,7 +100,7 @@ size_between version policy ts same l h c =
     omega arith
 
 -- A sheet of an admitted set has 15 to 732 bytes.
-pub admitted_size : (version : ℕ) (s : TaskSet) → length s.tasks ≡ most_tasks → admission s ≡ Admitted
+pub admitted_size : (version : ℕ) (s : TaskSet) → length s.tasks ≡ most_tasks → admission s ≡ Ok tt
     → (least_size ≤ length (sheet_bytes version s)) × (length (sheet_bytes version s) ≤ greatest_size)
 unfolding sheet_bytes
 admitted_size version s room e =

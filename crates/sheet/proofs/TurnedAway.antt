@@ -1,5 +1,6 @@
 -- Lists that are turned away whichever task it is: of no task, with a deadline above the period or below its frame, with a lock one above the largest frame, with frames
 -- that have no start.
+use Rattle.std.specs.Prelude.{Err, Ok}
 use Rattle.std.proofs.Common.{◌≡◌, ℕ, suc, ◌+◌, ◌<◌, ◌≤◌, Bool, true, false, not, ◌&&◌, ◌⊎◌, List, [], ◌∷◌, ◌++◌, length, sym, refl, ap, ◌∙◌, inl, inr, add-zero, zero-add, not-le_of_lt, arith, length-append, le-leb}
 use mathlib.Core.Bool.{and-eq-true_iff, and-false}
 use borrow.Author.Tests.{lt-leb}
@@ -9,7 +10,6 @@ use Rattle.sheet.specs.Constants.{most_tasks, greatest_time}
 use Rattle.sheet.specs.Tasks.{set_with}
 use Rattle.lent.specs.Checks.{Check, ◌⇒◌}
 use Rattle.sheet.specs.Admission.{decided, in_range, well_formed, lock_fits, monotonic, reason_of, known_policy, policy_check, task_count_check, list_checks, task_checks, admission}
-use Rattle.sheet.specs.declared.Answer.TheVariants.{Admitted, Refused}
 use Rattle.sheet.specs.declared.Refusal.{Refusal}
 use Rattle.sheet.specs.declared.Refusal.TheVariants.{TaskCount, IllFormed, Lock, NotMonotonic}
 use Rattle.sheet.proofs.Checks.{applies, admitted_first, passed_over}
@@ -20,7 +20,7 @@ use Rattle.sheet.proofs.Carried.{answer_of_tasks}
 use Rattle.sheet.proofs.Refused.{not_monotonic}
 
 -- The list of no task gives 6.
-pub no_task_is_6 : (policy : ℕ) → known_policy policy ≡ true → admission (set_with policy []) ≡ Refused TaskCount
+pub no_task_is_6 : (policy : ℕ) → known_policy policy ≡ true → admission (set_with policy []) ≡ Err TaskCount
 unfolding admission list_checks policy_check task_count_check set_with
 no_task_is_6 policy known = passed_over _ _ _ (policy_passes policy known) ∙ applies _ TaskCount _ refl
 
@@ -40,7 +40,7 @@ pub record Reaches (policy : ℕ) (us : List Task) (t : Task) (vs : List Task) :
   pub few_tasks : length (us ++ t ∷ vs) ≤ most_tasks
   pub counted : Each FramesCounted (us ++ t ∷ vs)
   pub as_many : Each AsMany (us ++ t ∷ vs)
-  pub before : decided (task_checks 0 us) ≡ Admitted
+  pub before : decided (task_checks 0 us) ≡ Ok tt
 
 reached : (policy : ℕ) (us : List Task) (t : Task) (vs : List Task) → Reaches policy us t vs
     → admission (set_with policy (us ++ t ∷ vs)) ≡ decided (task_checks (length us) (t ∷ vs))
@@ -52,7 +52,7 @@ reached policy us t vs r =
 
 -- a task that is not well formed gives 9
 ill_formed : (policy : ℕ) (us : List Task) (t : Task) (vs : List Task) → Reaches policy us t vs → well_formed t ≡ false
-    → admission (set_with policy (us ++ t ∷ vs)) ≡ Refused (IllFormed (length us))
+    → admission (set_with policy (us ++ t ∷ vs)) ≡ Err (IllFormed (length us))
 unfolding task_checks
 ill_formed policy us t vs r e =
     reached policy us t vs r
@@ -69,14 +69,14 @@ not_formed t no_one = go (bool_cases (well_formed t))
 -- A task of which a frame has a deadline above its period gives 9.
 pub late_deadline_is_9 : (policy : ℕ) (us : List Task) (t : Task) (vs : List Task) → Reaches policy us t vs
     → (k : ℕ) → k < frame_count t → t.period < deadline_of t k
-    → admission (set_with policy (us ++ t ∷ vs)) ≡ Refused (IllFormed (length us))
+    → admission (set_with policy (us ++ t ∷ vs)) ≡ Err (IllFormed (length us))
 late_deadline_is_9 policy us t vs r k k_in late =
     ill_formed policy us t vs r (not_formed t (λ e. not-le_of_lt late (deadline_below t e k k_in)))
 
 -- A task of which a frame has a deadline below its time gives 9.
 pub short_deadline_is_9 : (policy : ℕ) (us : List Task) (t : Task) (vs : List Task) → Reaches policy us t vs
     → (k : ℕ) → k < frame_count t → deadline_of t k < frame t k
-    → admission (set_with policy (us ++ t ∷ vs)) ≡ Refused (IllFormed (length us))
+    → admission (set_with policy (us ++ t ∷ vs)) ≡ Err (IllFormed (length us))
 short_deadline_is_9 policy us t vs r k k_in short =
     ill_formed policy us t vs r (not_formed t (λ e. not-le_of_lt short (frame_below t e k k_in)))
 
@@ -93,7 +93,7 @@ lock_in_range t q e h =
 -- A task in range and well formed whose lock is one above its largest frame, and still in range, gives 10.
 pub lock_above_largest_is_10 : (policy : ℕ) (us : List Task) (t : Task) (vs : List Task) → Reaches policy us (with_lock t (largest t.frames + 1)) vs
     → in_range t ≡ true → well_formed t ≡ true → largest t.frames < greatest_time
-    → admission (set_with policy (us ++ with_lock t (largest t.frames + 1) ∷ vs)) ≡ Refused (Lock (length us))
+    → admission (set_with policy (us ++ with_lock t (largest t.frames + 1) ∷ vs)) ≡ Err (Lock (length us))
 unfolding task_checks well_formed lock_fits
 lock_above_largest_is_10 policy us t vs r e f h =
     let q = largest t.frames + 1 in
@@ -104,7 +104,7 @@ lock_above_largest_is_10 policy us t vs r e f h =
 -- A task in range and well formed whose lock fits gives 11 if no frame of it qualifies as start, and says why.
 pub no_start_is_11 : (policy : ℕ) (us : List Task) (t : Task) (vs : List Task) → Reaches policy us t vs
     → in_range t ≡ true → well_formed t ≡ true → lock_fits t ≡ true → ¬ Monotonic t
-    → admission (set_with policy (us ++ t ∷ vs)) ≡ Refused (NotMonotonic (length us) (reason_of t))
+    → admission (set_with policy (us ++ t ∷ vs)) ≡ Err (NotMonotonic (length us) (reason_of t))
 unfolding task_checks
 no_start_is_11 policy us t vs r e f l none_starts =
     reached policy us t vs r

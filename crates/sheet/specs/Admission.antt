@@ -1,6 +1,5 @@
 -- What is turned away of a task and of a list (SCOPE.md, "What is turned away"): rows of checks, of which the first that applies decides.
-use Rattle.std.specs.Prelude.{ℕ, suc, Bool, true, false, not, ◌&&◌, ◌||◌, leb, List, [], ◌∷◌, ◌++◌, map, ◌==◌, nat_le, nat_lt}
-use Rattle.std.proofs.Math.Option.{Option, none, some}
+use Rattle.std.specs.Prelude.{ℕ, suc, Bool, true, false, not, ◌&&◌, ◌||◌, leb, List, [], ◌∷◌, ◌++◌, map, ◌==◌, nat_le, nat_lt, Option, Some, None, Result, Ok, Err}
 use Rattle.lent.specs.Checks.{Check, ◌⇒◌, first_refusal}
 use Rattle.theory.specs.First.{first, found}
 use Rattle.theory.specs.Tasks.{Task, frame_count, largest, largest_frame, qualifies}
@@ -9,18 +8,16 @@ use Rattle.sheet.specs.Constants.{most_tasks, most_frames, greatest_time, deadli
 use Rattle.sheet.specs.Tasks.{task_in, records_of}
 use Rattle.sheet.specs.declared.Task.{Task as Record}
 use Rattle.sheet.specs.declared.TaskSet.{TaskSet}
-use Rattle.sheet.specs.declared.Answer.{Answer}
-use Rattle.sheet.specs.declared.Answer.TheVariants.{Admitted, Refused}
 use Rattle.sheet.specs.declared.Reason.{Reason}
 use Rattle.sheet.specs.declared.Refusal.{Refusal}
 use Rattle.sheet.specs.declared.Refusal.TheVariants.{Policy, TaskCount, FrameCount, IllFormed, Lock, NotMonotonic}
 
 -- the answer to a row of checks: the first that applies decides
-abbrev pub answer_by : Option Refusal → Answer
-answer_by none = Admitted
-answer_by (some r) = Refused r
+abbrev pub answer_by : Option Refusal → Result Unit Refusal
+answer_by None = Ok tt
+answer_by (Some r) = Err r
 
-unfoldable pub decided : List (Check Refusal) → Answer
+unfoldable pub decided : List (Check Refusal) → Result Unit Refusal
 decided cs = answer_by (first_refusal cs)
 
 -- every number of a list passes a test
@@ -105,5 +102,5 @@ list_checks policy n records =
     ++ task_checks 0 (map task_in records)
 
 -- the answer to a set by value
-unfoldable pub admission : TaskSet → Answer
+unfoldable pub admission : TaskSet → Result Unit Refusal
 admission s = decided (list_checks s.policy s.task_count (records_of s))

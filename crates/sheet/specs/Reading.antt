@@ -1,5 +1,5 @@
 -- What the reader answers to a byte string.
-use Rattle.std.specs.Prelude.{ℕ, zero, suc, Bool, not, ◌&&◌, leb, List, [], ◌∷◌, ◌++◌, length, drop, ◌==◌, nat_le, nat_lt}
+use Rattle.std.specs.Prelude.{ℕ, zero, suc, Bool, not, ◌&&◌, leb, List, [], ◌∷◌, ◌++◌, length, drop, ◌==◌, nat_le, nat_lt, Err, Ok, Result}
 use Rattle.bits.specs.Packed.{bits_of}
 use Rattle.check_word.specs.Division.{body, sealed}
 use Rattle.theory.specs.Tasks.{Task}
@@ -7,12 +7,10 @@ use Rattle.sheet.specs.Constants.{version_1, version_2, least_size, greatest_siz
 use Rattle.records.specs.Rows.{total}
 use Rattle.records.specs.Sealed.{byte_width, some_set}
 use Rattle.sheet.specs.Fields.{own_deadlines, fixed_widths}
-use Rattle.sheet.specs.Tasks.{set_with, blank_set}
+use Rattle.sheet.specs.Tasks.{set_with}
 use Rattle.sheet.specs.Layout.{header_in, behind_header, frame_count_in, record_width, tasks_in}
 use Rattle.lent.specs.Checks.{Check, ◌⇒◌}
 use Rattle.sheet.specs.Admission.{decided, policy_check, task_count_check, frame_count_check, task_checks}
-use Rattle.sheet.specs.declared.Answer.{Answer}
-use Rattle.sheet.specs.declared.Answer.TheVariants.{Admitted, Refused}
 use Rattle.sheet.specs.declared.Reading.{Reading}
 use Rattle.sheet.specs.declared.TaskSet.{TaskSet}
 use Rattle.sheet.specs.declared.Refusal.{Refusal}
@@ -61,19 +59,15 @@ policy_of s = (header_in (bits_of (body s))).policy
 unfoldable pub tasks_of : List ℕ → List Task
 tasks_of s = let bits = bits_of (body s) in tasks_in (own_deadlines (version_of s)) (header_in bits).task_count (behind_header bits)
 
--- a refusal, and beside it no version and a set with no task
-unfoldable pub refused_reading : Refusal → Reading
-refused_reading why = record { answer = Refused why; version = 0; set = blank_set }
-
 -- a version and a set by the answer to them
-unfoldable pub reading_of : Answer → ℕ → TaskSet → Reading
-reading_of Admitted version s = record { answer = Admitted; version = version; set = s }
-reading_of (Refused why) version s = refused_reading why
+unfoldable pub reading_of : Result Unit Refusal → ℕ → TaskSet → Result Reading Refusal
+reading_of (Ok _) version s = Ok (record { version = version; set = s })
+reading_of (Err why) version s = Err why
 
 -- what a byte string is read as by a reader of the versions `least` to `most`
-unfoldable pub reading_among : (least most : ℕ) → List ℕ → Reading
+unfoldable pub reading_among : (least most : ℕ) → List ℕ → Result Reading Refusal
 reading_among least most s = reading_of (decided (checks_among least most s)) (version_of s) (set_with (policy_of s) (tasks_of s))
 
 -- and by one of either version
-unfoldable pub reading : List ℕ → Reading
+unfoldable pub reading : List ℕ → Result Reading Refusal
 reading s = reading_among version_1 version_2 s

@@ -1,5 +1,5 @@
 -- What the writer answers to a set, and what it leaves in the lent bytes.
-use Rattle.std.specs.Prelude.{ℕ, Bool, true, false, not, ◌&&◌, ◌||◌, List, [], ◌∷◌, ◌++◌, map, length, nat_eq}
+use Rattle.std.specs.Prelude.{ℕ, Bool, true, false, not, ◌&&◌, ◌||◌, List, [], ◌∷◌, ◌++◌, map, length, nat_eq, Result}
 use Rattle.records.specs.Rows.{packed}
 use Rattle.records.specs.Sealed.{sealed_record}
 use Rattle.theory.specs.Tasks.{Task, deadline_of}
@@ -12,8 +12,6 @@ use Rattle.sheet.specs.Admission.{all, list_checks}
 use Rattle.sheet.specs.Reading.{version_among}
 use Rattle.sheet.specs.declared.Task.{Task as Record}
 use Rattle.sheet.specs.declared.TaskSet.{TaskSet}
-use Rattle.sheet.specs.declared.Written.{Written}
-use Rattle.sheet.specs.declared.Written.TheVariants.{Bytes, TurnedAway}
 use Rattle.sheet.specs.declared.Refusal.{Refusal}
 use Rattle.sheet.specs.declared.Refusal.TheVariants.{Version, Room, Deadlines}
 
@@ -78,17 +76,17 @@ writing_checks version policy n records =
     version_check version ∷ list_checks policy n records ++ deadlines_check version (map task_in records) ∷ []
 
 -- writing a set: these refusals, its sheet as what is written, the count of its bytes as the answer
-unfoldable pub writing : ℕ → TaskSet → Call Refusal ℕ Written
+unfoldable pub writing : ℕ → TaskSet → Call Refusal ℕ ℕ
 writing version s =
     record {
       checks = writing_checks version s.policy s.task_count (records_of s);
       writes = sheet_bytes version s;
-      says = Bytes (length (sheet_bytes version s));
+      says = length (sheet_bytes version s);
     }
 
 -- what the writer answers for a lent room, and what the room holds afterwards
-unfoldable pub written : ℕ → TaskSet → List ℕ → Written
-written version s room = answered Room TurnedAway (writing version s) room
+unfoldable pub written : ℕ → TaskSet → List ℕ → Result ℕ Refusal
+written version s room = answered Room (writing version s) room
 
 unfoldable pub left : ℕ → TaskSet → List ℕ → List ℕ
 left version s room = left_after Room (writing version s) room

@@ -1,19 +1,21 @@
 // The sheet: its constants, stated once, the task record, and the refusals by number.
 #![tactic(auto)]
 
-ghost use Rattle.std.specs.Prelude.{◌≡◌, ◌-◌, min, true, ◌++◌, length, replicate};
+ghost use Rattle.std.specs.Prelude.{◌≡◌, ◌≤◌, ◌-◌, min, true, ◌++◌, length, replicate};
 ghost use Rattle.theory.specs.Tasks.{frame_count, deadline_of, shortest_deadline};
 ghost use Rattle.sheet.specs.Pairs.{the_widths, the_limits, the_policies};
-ghost use Rattle.sheet.specs.Constants.{most_frames, fixed_room};
+ghost use Rattle.sheet.specs.Constants.{most_tasks, most_frames, fixed_room};
 ghost use Rattle.sheet.specs.Fields.{header_widths, own_deadlines, fixed_widths, lock_field, frame_count_field, frame_fields, frame_widths};
-ghost use Rattle.sheet.specs.Tasks.{task_in, blank_record, blank_set, next_round};
+ghost use Rattle.sheet.specs.Tasks.{task_in, next_round, records_of};
 ghost use Rattle.sheet.specs.Admission.{known_policy, miscounted};
 ghost use Rattle.sheet.specs.Reading.{version_among};
-ghost use Rattle.sheet.specs.Refusals.{number_of, task_of_refusal, no_reason, reason_of_refusal};
+ghost use Rattle.sheet.specs.Refusals.{number_of, task_of_refusal, reason_of_refusal, surplus_refused};
+
+use records::Surplus;
 
 // A task as the workbench holds it: slots of `frames` and of `deadlines` past `frame_count` are not read, and are 0 when a record is filled.
 #[repr(C)]
-#[derive(Clone, Copy)]
+#[derive(Clone, Copy, Default)]
 pub struct Task {
     pub period: u32,
     pub lock: u32,
@@ -23,7 +25,7 @@ pub struct Task {
 }
 
 // A set by value, what a sheet carries: the policy and, of sixteen records, the first `task_count`.
-#[derive(Clone, Copy)]
+#[derive(Clone, Copy, Default)]
 pub struct TaskSet {
     pub policy: u32,
     pub task_count: u32,
@@ -168,59 +170,39 @@ impl Sheet {
     pub fn fixed_widths(own: bool) -> [usize; Sheet::FIXED_ROOM]
         ensures { result ≡ fixed_widths own ++ replicate (fixed_room - length (fixed_widths own)) 0 }
     {
+        let (time, count) = (Sheet::TIME_WIDTH, Sheet::FRAME_COUNT_WIDTH);
         if own {
-            return [
-                Sheet::TIME_WIDTH,
-                Sheet::TIME_WIDTH,
-                Sheet::FRAME_COUNT_WIDTH,
-                0,
-            ];
+            [time, time, count, 0]
+        } else {
+            [time, time, time, count]
         }
-        [
-            Sheet::TIME_WIDTH,
-            Sheet::TIME_WIDTH,
-            Sheet::TIME_WIDTH,
-            Sheet::FRAME_COUNT_WIDTH,
-        ]
     }
 
     // How many fields that part has.
     pub fn fixed_fields(own: bool) -> usize
         ensures { result ≡ length (fixed_widths own) }
     {
-        if own {
-            return 3;
-        }
-        4
+        if own { 3 } else { 4 }
     }
 
     // Where the lock stands in it, and the frame count.
     pub fn lock_field(own: bool) -> usize
         ensures { result ≡ lock_field own }
     {
-        if own {
-            return 1;
-        }
-        2
+        if own { 1 } else { 2 }
     }
 
     pub fn frame_count_field(own: bool) -> usize
         ensures { result ≡ frame_count_field own }
     {
-        if own {
-            return 2;
-        }
-        3
+        if own { 2 } else { 3 }
     }
 
     // How many fields each frame has.
     pub fn frame_fields(own: bool) -> usize
         ensures { result ≡ frame_fields own }
     {
-        if own {
-            return 2;
-        }
-        1
+        if own { 2 } else { 1 }
     }
 
     // The fields of as many frames as a record has slots for.
@@ -248,31 +230,31 @@ impl Sheet {
     }
 }
 
-impl TaskSet {
-    // A set with no task.
-    pub fn blank() -> TaskSet
-        ensures { result ≡ blank_set }
+impl Task {
+    // The times of its frames.
+    pub fn frames_in_use(&self) -> &[u32]
+        ensures are { result.now ≡ (task_in self.now).frames }
+        ensures few { length result.now ≤ most_frames }
     {
-        TaskSet {
-            policy: 0,
-            task_count: 0,
-            tasks: [Task::blank(); Sheet::TASK_ROOM],
-        }
+        &self.frames[..in_use(self.frame_count as usize, Sheet::FRAME_ROOM)]
+    }
+
+    // The deadlines of its frames.
+    pub fn deadlines_in_use(&self) -> &[u32]
+        ensures are { result.now ≡ (task_in self.now).deadlines }
+        ensures few { length result.now ≤ most_frames }
+    {
+        &self.deadlines[..in_use(self.frame_count as usize, Sheet::FRAME_ROOM)]
     }
 }
 
-impl Task {
-    // A record of zeros.
-    pub fn blank() -> Task
-        ensures { result ≡ blank_record }
+impl TaskSet {
+    // The records of its tasks.
+    pub fn tasks_in_use(&self) -> &[Task]
+        ensures are { result.now ≡ records_of self.now }
+        ensures few { length result.now ≤ most_tasks }
     {
-        Task {
-            period: 0,
-            lock: 0,
-            frame_count: 0,
-            frames: [0; Sheet::FRAME_ROOM],
-            deadlines: [0; Sheet::FRAME_ROOM],
-        }
+        &self.tasks[..in_use(self.task_count as usize, Sheet::TASK_ROOM)]
     }
 }
 
@@ -280,10 +262,7 @@ impl Task {
 pub fn in_use(count: usize, most: usize) -> usize
     ensures { result ≡ min count most }
 {
-    if count < most {
-        return count;
-    }
-    most
+    count.min(most)
 }
 
 // Whether a policy is one of the known.
@@ -297,20 +276,14 @@ pub fn known_policy(policy: u32) -> bool
 pub fn version_among(least: u32, most: u32, version: u32) -> bool
     ensures { result ≡ version_among least most version }
 {
-    if version < least {
-        return false;
-    }
-    version <= most
+    (least..=most).contains(&version)
 }
 
 // Whether a count is 0 or over its limit.
 pub fn miscounted(n: u32, most: u32) -> bool
     ensures { result ≡ miscounted n most }
 {
-    if n == 0 {
-        return true;
-    }
-    most < n
+    !(1..=most).contains(&n)
 }
 
 // The frame that follows frame k of `count`, going round.
@@ -318,11 +291,8 @@ pub fn next_frame(k: usize, count: usize) -> usize
     ensures { result ≡ next_round k count }
 {
     // behind the last number comes 0, which is the answer there too
-    let next = std::num::wrapping_add_usize(k, 1);
-    if next < count {
-        return next;
-    }
-    0
+    let next = k.wrapping_add(1);
+    if next < count { next } else { 0 }
 }
 
 // How many frames a task has.
@@ -343,57 +313,31 @@ pub fn frame_after(task: Task, k: u32) -> u32
 pub fn deadline_of(task: Task, k: usize) -> u32
     ensures { result ≡ deadline_of (task_in task) k }
 {
-    let count = frame_count(task);
-    if count == 0 {
+    let deadlines = task.deadlines_in_use();
+    if deadlines.is_empty() {
         return 0;
     }
-    let deadlines = task.deadlines;
-    deadlines[k % count]
+    deadlines[k % deadlines.len()]
 }
 
 // The shortest deadline of a task's frames; 0 where it has none.
 pub fn shortest_deadline(task: Task) -> u32
     ensures { result ≡ shortest_deadline (task_in task) }
 {
-    let count = frame_count(task);
-    if count == 0 {
-        return 0;
-    }
-    let deadlines = task.deadlines;
-    let mut shortest = deadlines[0];
-    for k in 1..count {
-        let next = deadlines[k];
-        if next < shortest {
-            shortest = next;
-        }
-    }
-    shortest
+    task.deadlines_in_use().iter().copied().min().unwrap_or(0)
 }
 
 // Why no frame of a task qualifies as start: the lowest-numbered largest frame, the shortest length at which another frame's sum is greater, and
 // the lowest-numbered such frame.
-#[derive(Clone, Copy)]
+#[derive(Clone, Copy, Debug, PartialEq, Eq, Default)]
 pub struct Reason {
     pub frame: u32,
     pub length: u32,
     pub other: u32,
 }
 
-impl Reason {
-    // Where there is none to give.
-    pub fn blank() -> Reason
-        ensures { result ≡ no_reason }
-    {
-        Reason {
-            frame: 0,
-            length: 0,
-            other: 0,
-        }
-    }
-}
-
 // What is turned away, in the order of the numbers 1 to 12, and 17; a task number where the number belongs to a task, and of 11 the reason.
-#[derive(Clone, Copy)]
+#[derive(Clone, Copy, Debug, PartialEq, Eq)]
 pub enum Refusal {
     Length,
     CheckWord,
@@ -435,19 +379,11 @@ impl Refusal {
         ensures { result ≡ task_of_refusal self }
     {
         match self {
-            Refusal::FrameCount(i) => i,
-            Refusal::IllFormed(i) => i,
-            Refusal::Lock(i) => i,
-            Refusal::NotMonotonic(i, _) => i,
-            Refusal::Length => 0,
-            Refusal::CheckWord => 0,
-            Refusal::Version => 0,
-            Refusal::Policy => 0,
-            Refusal::BitSet => 0,
-            Refusal::TaskCount => 0,
-            Refusal::Records => 0,
-            Refusal::Room => 0,
-            Refusal::Deadlines => 0,
+            Refusal::FrameCount(i)
+            | Refusal::IllFormed(i)
+            | Refusal::Lock(i)
+            | Refusal::NotMonotonic(i, _) => i,
+            _ => 0,
         }
     }
 
@@ -456,40 +392,26 @@ impl Refusal {
     {
         match self {
             Refusal::NotMonotonic(_, why) => why,
-            Refusal::Length => Reason::blank(),
-            Refusal::CheckWord => Reason::blank(),
-            Refusal::Version => Reason::blank(),
-            Refusal::Policy => Reason::blank(),
-            Refusal::BitSet => Reason::blank(),
-            Refusal::TaskCount => Reason::blank(),
-            Refusal::FrameCount(_) => Reason::blank(),
-            Refusal::Records => Reason::blank(),
-            Refusal::IllFormed(_) => Reason::blank(),
-            Refusal::Lock(_) => Reason::blank(),
-            Refusal::Room => Reason::blank(),
-            Refusal::Deadlines => Reason::blank(),
+            _ => Reason::default(),
         }
     }
 }
 
-// Whether something was admitted, or the one refusal.
-#[derive(Clone, Copy)]
-pub enum Answer {
-    Admitted,
-    Refused(Refusal),
+// Bits behind the last record of a sheet: 8 for a byte or more, 5 for a fill bit.
+impl From<Surplus> for Refusal {
+    ghost from_gives = { λ left why. why ≡ surplus_refused left };
+
+    fn from(left: Surplus) -> Refusal {
+        match left {
+            Surplus::ByteLeft => Refusal::Records,
+            Surplus::BitSet => Refusal::BitSet,
+        }
+    }
 }
 
-// What the reader gives: beside a refusal stand no version and a set with no task.
+// What the reader gives of a sheet that it admits.
 #[derive(Clone, Copy)]
 pub struct Reading {
-    pub answer: Answer,
     pub version: u32,
     pub set: TaskSet,
-}
-
-// What the writer gives: how many bytes it wrote, or the refusal.
-#[derive(Clone, Copy)]
-pub enum Written {
-    Bytes(usize),
-    TurnedAway(Refusal),
 }

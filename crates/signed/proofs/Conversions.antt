@@ -1,8 +1,9 @@
 -- What we sign for a sheet that is converted, at the entries: every theorem is about any call that keeps its contract (specs/Calls.antt).
 -- What is claimed stands in specs/Conversions.antt and specs/Numbers.antt.
+use Rattle.std.specs.Prelude.{Err, Ok, Result, Some, IsOk}
+use Rattle.sheet.specs.declared.Refusal.{Refusal}
 use mathlib.Core.Bool.{true, not}
 use mathlib.Core.List.{List}
-use mathlib.Core.Option.{some}
 use mathlib.Core.Path.{◌≡◌, refl, sym, ap, ◌∙◌}
 use Prim.Native.Nat.{ℕ, ◌≤◌}
 use lib.ListN.{length, take, drop}
@@ -14,10 +15,7 @@ use Rattle.lent.proofs.Lent.{by_checks}
 use Rattle.sheet.specs.Constants.{version_1, version_2}
 use Rattle.sheet.specs.Reading.{version_among, checks_among, reading}
 use Rattle.sheet.specs.Writing.{version_check}
-use Rattle.sheet.specs.declared.Answer.TheVariants.{Admitted}
 use Rattle.sheet.specs.declared.Refusal.TheVariants.{CheckWord, Room}
-use Rattle.sheet.specs.declared.Written.{Written}
-use Rattle.sheet.specs.declared.Written.TheVariants.{Bytes, TurnedAway}
 use Rattle.converter.specs.Converting.{other_version, converting_checks, converting, converted, converted_left}
 use Rattle.signed.specs.Calls.{Convert, ConvertC}
 use Rattle.signed.specs.Claims.{Damaged}
@@ -31,7 +29,7 @@ use Rattle.signed.proofs.Converting.{signed_so, there_again}
 -- ---- What the answer says is so of the sheet and of the bytes
 
 -- `convert`
-pub convert_signed : (version : ℕ) (sheet before after : List ℕ) (answer : Written) → Convert version sheet before answer after → ConvertSigned version sheet before answer after
+pub convert_signed : (version : ℕ) (sheet before after : List ℕ) (answer : Result ℕ Refusal) → Convert version sheet before answer after → ConvertSigned version sheet before answer after
 convert_signed version sheet before after answer c = rw (c.answers, c.leaves) (signed_so version sheet before)
 
 -- `burrbeech_convert`
@@ -42,11 +40,11 @@ convert_c_signed version sheet before after number c = convert_signed version sh
 -- ---- There and back
 
 -- `convert`, then `convert` of the bytes written into room that is long enough: the same bytes.
-pub convert_there_and_back : (version : ℕ) (sheet before after room back : List ℕ) (n : ℕ) (answer : Written) → IsBytes sheet
-    → Convert version sheet before (Bytes n) after
+pub convert_there_and_back : (version : ℕ) (sheet before after room back : List ℕ) (n : ℕ) (answer : Result ℕ Refusal) → IsBytes sheet
+    → Convert version sheet before (Ok n) after
     → length sheet ≤ length room
     → Convert (other_version version) (take n after) room answer back
-    → (answer ≡ Bytes (length sheet))
+    → (answer ≡ Ok (length sheet))
     × (take (length sheet) back ≡ sheet)
     × (drop (length sheet) back ≡ drop (length sheet) room)
 convert_there_and_back version sheet before after room back n answer byte there fits then =
@@ -59,10 +57,10 @@ convert_there_and_back version sheet before after room back n answer byte there 
 
 -- The same through C.
 pub convert_there_and_back_c : (version : ℕ) (sheet before after room back : List ℕ) (n number answer : ℕ) → IsBytes sheet
-    → ConvertC version sheet before number after → written_by number ≡ Bytes n
+    → ConvertC version sheet before number after → written_by number ≡ Ok n
     → length sheet ≤ length room
     → ConvertC (other_version version) (take n after) room answer back
-    → (written_by answer ≡ Bytes (length sheet))
+    → (written_by answer ≡ Ok (length sheet))
     × (take (length sheet) back ≡ sheet)
     × (drop (length sheet) back ≡ drop (length sheet) room)
 convert_there_and_back_c version sheet before after room back n number answer byte there e fits then =
@@ -71,16 +69,16 @@ convert_there_and_back_c version sheet before after room back n number answer by
 
 -- ---- Damage: an admitted sheet changed within sixteen neighbouring bits gets 2, and nothing else changes
 
-module _ (version : ℕ) (known : version_among version_1 version_2 version ≡ true) (sheet changed : List ℕ) (admitted : (reading sheet).answer ≡ Admitted) (damaged : Damaged sheet changed) where
-  pub convert_damaged : (before after : List ℕ) (answer : Written) → Convert version changed before answer after → (answer ≡ TurnedAway CheckWord) × (after ≡ before)
+module _ (version : ℕ) (known : version_among version_1 version_2 version ≡ true) (sheet changed : List ℕ) (admitted : IsOk (reading sheet)) (damaged : Damaged sheet changed) where
+  pub convert_damaged : (before after : List ℕ) (answer : Result ℕ Refusal) → Convert version changed before answer after → (answer ≡ Err CheckWord) × (after ≡ before)
   unfolding converted converted_left converting converting_checks version_check
   convert_damaged before after answer c =
-      let first : first_refusal (converting_checks version changed) ≡ some CheckWord =
+      let first : first_refusal (converting_checks version changed) ≡ Some CheckWord =
       passed_over _ _ _ (ap not known)
       ∙ some_first (checks_among (other_version version) (other_version version) changed) _ CheckWord
       (damaged_among (other_version version) (other_version version) sheet changed admitted damaged) in
-      let t = by_checks Room TurnedAway (converting version changed) before CheckWord first in
+      let t = by_checks Room (converting version changed) before CheckWord first in
       (c.answers ∙ t.answer, c.leaves ∙ t.unchanged)
 
-  pub convert_c_damaged : (before after : List ℕ) (number : ℕ) → ConvertC version changed before number after → (written_by number ≡ TurnedAway CheckWord) × (after ≡ before)
+  pub convert_c_damaged : (before after : List ℕ) (number : ℕ) → ConvertC version changed before number after → (written_by number ≡ Err CheckWord) × (after ≡ before)
   convert_c_damaged before after number c = convert_damaged before after (written_by number) (convert_c_says version changed before after number c)

@@ -1,8 +1,8 @@
 -- What each entry answers and leaves, from its definition: refused with the memory as it was, or done.
+use Rattle.std.specs.Prelude.{Err, None, Ok, Result, Some}
 use mathlib.Core.Bool.{Bool, true, false, cond, ◌||◌}
 use mathlib.Core.List.{List, [], ◌∷◌, ◌++◌, map, append-nil}
 use mathlib.Core.Logic.{◌↔◌}
-use mathlib.Core.Option.{none, some}
 use mathlib.Core.Path.{◌≡◌, refl, sym, ap, ◌∙◌}
 use Prim.Native.Nat.{ℕ, ◌-◌, ◌*◌, ◌≤◌, ◌<◌}
 use native.Mathlib.Decide.{dec_lt}
@@ -25,41 +25,31 @@ use Rattle.sheet.specs.Reading.{version_among, sheet_checks, version_of, policy_
 use Rattle.sheet.specs.Writing.{sheet_of, one_deadline_each, writing_checks}
 use Rattle.sheet.specs.declared.Task.{Task as Record}
 use Rattle.sheet.specs.declared.TaskSet.{TaskSet}
-use Rattle.sheet.specs.declared.Answer.{Answer}
-use Rattle.sheet.specs.declared.Answer.TheVariants.{Admitted}
-use Rattle.sheet.specs.declared.Answer.TheVariants.{Refused as turned}
-use Rattle.sheet.specs.declared.Written.{Written}
-use Rattle.sheet.specs.declared.Written.TheVariants.{Bytes}
-use Rattle.sheet.specs.declared.Written.TheVariants.{TurnedAway as not_written}
 use Rattle.sheet.specs.declared.Refusal.{Refusal}
 use Rattle.sheet.specs.declared.Refusal.TheVariants.{Room}
 use Rattle.sheet.proofs.Checks.{admits, refuses, none_applies, one_applies, passed}
 use Rattle.sheet.proofs.Counts.{count_passed, known_small}
-use Rattle.sheet.proofs.Carried.{Carried, by_admission, passed_sheet, by_reading, reading_answer}
+use Rattle.sheet.proofs.Carried.{Carried, by_admission, passed_sheet, by_reading}
 use Rattle.sheet.proofs.RoundTrip.{version_small}
 use Rattle.sheet.proofs.WhatIsWritten.{Writable, passed_checks}
 use Rattle.sheet.proofs.Analysable.{admitted_set_is_admitted, admitted_sheet_is_admitted}
 use Rattle.order.specs.Order.{priority_order, ordered_set}
 use Rattle.analysis.specs.Times.{outcome_of, times_of}
-use Rattle.analysis.specs.Answers.{code, outcome_by, decision, refused_decision, analysing, set_analysing, set_decision, set_left, sheet_analysing, sheet_decision, sheet_left}
-use Rattle.analysis.specs.declared.Outcome.{Outcome}
-use Rattle.analysis.specs.declared.Outcome.TheVariants.{Holds, Missed, Refused}
+use Rattle.analysis.specs.Answers.{code, outcome_by, decision, analysing, set_analysing, set_decision, set_left, sheet_analysing, sheet_decision, sheet_left}
 use Rattle.analysis.specs.declared.Decision.{Decision}
 use Rattle.analysis.proofs.Entries.{times_long}
-use Rattle.analysis.proofs.Promises.{outcome_not_refused}
 use Rattle.lists.specs.Faces.{reading_list, list_read, list_filled, writing_list, list_written, list_left, analysing_list, list_analysed, list_times}
 use Rattle.lists.specs.declared.ListRead.{ListRead}
-use Rattle.lists.specs.declared.ListRead.TheVariants.{Set}
-use Rattle.lists.specs.declared.ListRead.TheVariants.{TurnedAway as not_read}
 use Rattle.converter.specs.Converting.{converting_checks, conversion, converting, converted, converted_left}
 use Rattle.converter.proofs.Outcomes.{Convertible, convertible}
 use Rattle.report_text.specs.Report.{first_line, task_lines, lines_behind, report}
 use Rattle.report_text.specs.Text.{reporting, report_written, report_left}
 use Rattle.workbench.specs.Entry.{checking, entry_number, entry_left}
 use Rattle.workbench.proofs.Four.{length_four}
-use Rattle.signed.specs.Claims.{Kept, in_numbers, in_bytes, refusal_to}
+use Rattle.signed.specs.Claims.{Kept, in_numbers, in_bytes, outcome_told, refusal_to}
 use Rattle.signed.proofs.Memory.{stored}
-use Rattle.signed.proofs.Numbers.{Twelve, sheet_twelve, list_twelve}
+use Rattle.signed.proofs.Numbers.{Twelve, ReadInBits, sheet_twelve, list_twelve}
+use Rattle.signed.proofs.Read.{same_refusal}
 
 -- ---- the entries that analyse
 
@@ -69,34 +59,34 @@ pub record Sound (policy : ℕ) (tasks : List Task) : Type 0 where
   pub admitted : IsAdmitted tasks
 
 -- A call about these tasks is refused and leaves the memory as it was, or it decides of the tasks and their times stand first.
-pub data Analysed (policy : ℕ) (tasks : List Task) (kept : Kept) (before : List ℕ) : Decision → List ℕ → Type 0 where
-  is_refused : (why : Refusal) → Twelve why → Analysed policy tasks kept before (refused_decision why) before
+pub data Analysed (policy : ℕ) (tasks : List Task) (kept : Kept) (before : List ℕ) : Result Decision Refusal → List ℕ → Type 0 where
+  is_refused : (why : Refusal) → Twelve why → Analysed policy tasks kept before (Err why) before
   is_analysed : Sound policy tasks → length (stored kept (times_of policy tasks)) ≤ length before
-      → Analysed policy tasks kept before (decision policy tasks) (laid (stored kept (times_of policy tasks)) before)
+      → Analysed policy tasks kept before (Ok (decision policy tasks)) (laid (stored kept (times_of policy tasks)) before)
 
 module _ (checks : List (Check Refusal)) (policy : ℕ) (tasks : List Task) (before : List ℕ) (few : Each Twelve checks)
-    (sound : first_refusal checks ≡ none → Sound policy tasks) where
+    (sound : first_refusal checks ≡ None → Sound policy tasks) where
   abbrev call : Call Refusal ℕ Decision
   call = analysing checks policy tasks
 
-  analysed : Analysed policy tasks in_numbers before (answered Room refused_decision call before) (left_after Room call before)
+  analysed : Analysed policy tasks in_numbers before (answered Room call before) (left_after Room call before)
   unfolding analysing
-  analysed = go (told Room refused_decision call before)
+  analysed = go (told Room call before)
     where
-      go : Told Room refused_decision call before → Analysed policy tasks in_numbers before (answered Room refused_decision call before) (left_after Room call before)
-      go (turned_away r t) = rw (t.answer, t.unchanged) (is_refused r (each_refusal Room refused_decision call before Twelve few (lit≤ tt) r t.why))
+      go : Told Room call before → Analysed policy tasks in_numbers before (answered Room call before) (left_after Room call before)
+      go (turned_away r t) = rw (t.answer, t.unchanged) (is_refused r (each_refusal Room call before Twelve few (lit≤ tt) r t.why))
       go (is_done d) = rw (d.answer, d.holds) (is_analysed (sound d.admitted) d.room)
 
-sound_set : (s : TaskSet) → length s.tasks ≡ most_tasks → first_refusal (list_checks s.policy s.task_count (records_of s)) ≡ none
+sound_set : (s : TaskSet) → length s.tasks ≡ most_tasks → first_refusal (list_checks s.policy s.task_count (records_of s)) ≡ None
     → Sound s.policy (map task_in (records_of s))
 unfolding admission
 sound_set s sixteen e =
-    let a : admission s ≡ Admitted = admits (list_checks s.policy s.task_count (records_of s)) e in
+    let a : admission s ≡ Ok tt = admits (list_checks s.policy s.task_count (records_of s)) e in
     record { carried = by_admission s sixteen a; admitted = admitted_set_is_admitted s sixteen a }
 
-sound_sheet : (s : List ℕ) → first_refusal (sheet_checks s) ≡ none → Sound (policy_of s) (tasks_of s)
+sound_sheet : (s : List ℕ) → first_refusal (sheet_checks s) ≡ None → Sound (policy_of s) (tasks_of s)
 sound_sheet s e =
-    let a : (reading s).answer ≡ Admitted = reading_answer s ∙ admits (sheet_checks s) e in
+    let a = admits (sheet_checks s) e in
     record { carried = by_reading s a; admitted = admitted_sheet_is_admitted s a }
 
 -- `analyse_set`
@@ -112,14 +102,14 @@ sheet_entry s before = analysed (sheet_checks s) (policy_of s) (tasks_of s) befo
 
 -- `burrbeech_check_sheet`: the number of an outcome
 pub check_entry : (s before : List ℕ)
-    → (decided : Decision) × (entry_number s before ≡ code decided.outcome) × Analysed (policy_of s) (tasks_of s) in_bytes before decided (entry_left s before)
-unfolding entry_number entry_left checking
-check_entry s before = go (told Room number_of (checking s) before)
+    → (answer : Result Decision Refusal) × (entry_number s before ≡ code (outcome_told answer)) × Analysed (policy_of s) (tasks_of s) in_bytes before answer (entry_left s before)
+unfolding entry_number entry_left checking outcome_told
+check_entry s before = go (told Room (checking s) before)
   where
-    go : Told Room number_of (checking s) before
-        → (decided : Decision) × (entry_number s before ≡ code decided.outcome) × Analysed (policy_of s) (tasks_of s) in_bytes before decided (entry_left s before)
-    go (turned_away r t) = (refused_decision r, t.answer, rw t.unchanged (is_refused r (each_refusal Room number_of (checking s) before Twelve (sheet_twelve s) (lit≤ tt) r t.why)))
-    go (is_done d) = (decision (policy_of s) (tasks_of s), d.answer, rw d.holds (is_analysed (sound_sheet s d.admitted) d.room))
+    go : Told Room (checking s) before
+        → (answer : Result Decision Refusal) × (entry_number s before ≡ code (outcome_told answer)) × Analysed (policy_of s) (tasks_of s) in_bytes before answer (entry_left s before)
+    go (turned_away r t) = (Err r, ap code t.answer, rw t.unchanged (is_refused r (each_refusal Room (checking s) before Twelve (sheet_twelve s) (lit≤ tt) r t.why)))
+    go (is_done d) = (Ok (decision (policy_of s) (tasks_of s)), ap code d.answer, rw d.holds (is_analysed (sound_sheet s d.admitted) d.room))
 
 -- ---- lists
 
@@ -132,15 +122,15 @@ module _ (policy : ℕ) (list : List Record) where
   unfolding records_of
   all_in_use = take_at list _ (length list) refl
 
-  few_listed : decided (list_checks policy (length list) list) ≡ Admitted → length list ≤ most_tasks
+  few_listed : decided (list_checks policy (length list) list) ≡ Ok tt → length list ≤ most_tasks
   unfolding list_checks task_count_check
   few_listed e = (count_passed (length list) most_tasks (passed _ _ (passed _ _ e).1).0).1
 
-  sound_list : first_refusal (list_checks policy (length list) list) ≡ none → Sound policy (map task_in list)
+  sound_list : first_refusal (list_checks policy (length list) list) ≡ None → Sound policy (map task_in list)
   sound_list e =
       let few = few_listed (admits (list_checks policy (length list) list) e) in
       let sixteen : length as_set.tasks ≡ most_tasks = simp (length-append, length-replicate) (omega arith) in
-      let same : first_refusal (list_checks policy (length list) (records_of as_set)) ≡ none = ap (λ (rs : List Record). first_refusal (list_checks policy (length list) rs)) all_in_use ∙ e in
+      let same : first_refusal (list_checks policy (length list) (records_of as_set)) ≡ None = ap (λ (rs : List Record). first_refusal (list_checks policy (length list) rs)) all_in_use ∙ e in
       rw all_in_use at (sound_set as_set sixteen same)
 
 -- `analyse_list`
@@ -150,43 +140,42 @@ unfolding list_analysed list_times analysing_list
 list_entry policy list before = analysed (list_checks policy (length list) list) policy (map task_in list) before (list_twelve _ _ _) (sound_list policy list)
 
 -- `read_list` is refused and leaves the list as it was, or a record for each task of the sheet stands first.
-pub data Read (sheet : List ℕ) (before : List Record) : ListRead → List Record → Type 0 where
-  no_read : (why : Refusal) → Read sheet before (not_read why) before
-  is_read : (reading sheet).answer ≡ Admitted → length (tasks_of sheet) ≤ length before
-      → Read sheet before (Set (version_of sheet) (policy_of sheet) (length (tasks_of sheet))) (laid (map record_of (tasks_of sheet)) before)
+pub data Read (sheet : List ℕ) (before : List Record) : Result ListRead Refusal → List Record → Type 0 where
+  no_read : (why : Refusal) → Read sheet before (Err why) before
+  is_read : decided (sheet_checks sheet) ≡ Ok tt → length (tasks_of sheet) ≤ length before
+      → Read sheet before (Ok (record { version = version_of sheet; policy = policy_of sheet; task_count = length (tasks_of sheet) })) (laid (map record_of (tasks_of sheet)) before)
 
 module _ (sheet : List ℕ) (before : List Record) where
   pub read_entry : Read sheet before (list_read sheet before) (list_filled sheet before)
   unfolding list_read list_filled reading_list
-  read_entry = go (told Room not_read (reading_list sheet) before)
+  read_entry = go (told Room (reading_list sheet) before)
     where
-      go : Told Room not_read (reading_list sheet) before → Read sheet before (list_read sheet before) (list_filled sheet before)
+      go : Told Room (reading_list sheet) before → Read sheet before (list_read sheet before) (list_filled sheet before)
       go (turned_away r t) = rw (t.answer, t.unchanged) (no_read r)
       go (is_done d) =
           rw (d.answer, d.holds)
-          (is_read (reading_answer sheet ∙ admits (sheet_checks sheet) d.admitted) (omega (arith, d.room, length-map (tasks_of sheet) record_of)))
+          (is_read (admits (sheet_checks sheet) d.admitted) (omega (arith, d.room, length-map (tasks_of sheet) record_of)))
 
   -- an admitted sheet with room is read
-  pub reads : (reading sheet).answer ≡ Admitted → length (tasks_of sheet) ≤ length before
-      → (list_read sheet before ≡ Set (version_of sheet) (policy_of sheet) (length (tasks_of sheet))) × (list_filled sheet before ≡ laid (map record_of (tasks_of sheet)) before)
+  pub reads : decided (sheet_checks sheet) ≡ Ok tt → length (tasks_of sheet) ≤ length before
+      → (list_read sheet before ≡ Ok (record { version = version_of sheet; policy = policy_of sheet; task_count = length (tasks_of sheet) })) × (list_filled sheet before ≡ laid (map record_of (tasks_of sheet)) before)
   unfolding list_read list_filled reading_list
   reads a h =
-      let d = done Room not_read (reading_list sheet) before (none_applies (sheet_checks sheet) (sym (reading_answer sheet) ∙ a)) (omega (arith, h, length-map (tasks_of sheet) record_of)) in
+      let d = done Room (reading_list sheet) before (none_applies (sheet_checks sheet) a) (omega (arith, h, length-map (tasks_of sheet) record_of)) in
       (d.answer, d.holds)
 
 -- the version and the policy that were read are of the known, and the tasks are few
-pub known_read : (sheet : List ℕ) (before : List Record) (x : ListRead) (after : List Record) → Read sheet before x after
-    → (version policy count : ℕ) → x ≡ Set version policy count → (version < 256) × (policy < 256) × (count < 256)
-known_read sheet before x after (no_read why) version policy count e = let z : ◌≡◌ {A = ℕ} 0 1 = cc in let z : ⊥ = omega arith in absurd z
-known_read sheet before x after (is_read a fits) version policy count e =
-    let form : version_of sheet ≡ version = cc in
-    let same : policy_of sheet ≡ policy = cc in
-    let tasks : length (tasks_of sheet) ≡ count = cc in
-    let c = by_reading sheet a in (
-      omega (arith, version_small (version_of sheet) (passed_sheet sheet a).version_known),
-      omega (arith, known_small (policy_of sheet) c.policy_known),
-      omega (arith, c.few_tasks),
-    )
+pub known_read : (sheet : List ℕ) (before : List Record) (x : Result ListRead Refusal) (after : List Record) → Read sheet before x after → (r : ListRead) → x ≡ Ok r → ReadInBits r
+known_read sheet before x after (no_read why) r e = cc
+known_read sheet before x after (is_read a fits) r e =
+    let same : record { version = version_of sheet; policy = policy_of sheet; task_count = length (tasks_of sheet) } ≡ r = cc in
+    let c = by_reading sheet a in
+    rw (← same)
+    (record {
+      version = omega (arith, version_small (version_of sheet) (passed_sheet sheet a).version_known);
+      policy = omega (arith, known_small (policy_of sheet) c.policy_known);
+      task_count = omega (arith, c.few_tasks);
+    })
 
 -- admitted tasks in a version that is known and can hold them
 pub record Held (version policy : ℕ) (tasks : List Task) : Type 0 where
@@ -195,13 +184,13 @@ pub record Held (version policy : ℕ) (tasks : List Task) : Type 0 where
   pub held : (own_deadlines version || one_deadline_each tasks) ≡ true
 
 -- `write_list` is refused and leaves the bytes as they were, or the list's sheet stands first.
-pub data Wrote (version policy : ℕ) (list : List Record) (before : List ℕ) : Written → List ℕ → Type 0 where
-  no_write : (why : Refusal) → Wrote version policy list before (not_written why) before
+pub data Wrote (version policy : ℕ) (list : List Record) (before : List ℕ) : Result ℕ Refusal → List ℕ → Type 0 where
+  no_write : (why : Refusal) → Wrote version policy list before (Err why) before
   is_written : Held version policy (map task_in list) → length (sheet_of version policy (map task_in list)) ≤ length before
-      → Wrote version policy list before (Bytes (length (sheet_of version policy (map task_in list)))) (laid (sheet_of version policy (map task_in list)) before)
+      → Wrote version policy list before (Ok (length (sheet_of version policy (map task_in list)))) (laid (sheet_of version policy (map task_in list)) before)
 
 module _ (version policy : ℕ) (list : List Record) (before : List ℕ) where
-  held_list : first_refusal (writing_checks version policy (length list) list) ≡ none → Held version policy (map task_in list)
+  held_list : first_refusal (writing_checks version policy (length list) list) ≡ None → Held version policy (map task_in list)
   unfolding admission
   held_list e =
       let same : records_of (as_set policy list) ≡ list = all_in_use policy list in
@@ -216,279 +205,248 @@ module _ (version policy : ℕ) (list : List Record) (before : List ℕ) where
 
   pub write_entry : Wrote version policy list before (list_written version policy list before) (list_left version policy list before)
   unfolding list_written list_left writing_list
-  write_entry = go (told Room not_written (writing_list version policy list) before)
+  write_entry = go (told Room (writing_list version policy list) before)
     where
-      go : Told Room not_written (writing_list version policy list) before → Wrote version policy list before (list_written version policy list before) (list_left version policy list before)
+      go : Told Room (writing_list version policy list) before → Wrote version policy list before (list_written version policy list before) (list_left version policy list before)
       go (turned_away r t) = rw (t.answer, t.unchanged) (no_write r)
       go (is_done d) = rw (d.answer, d.holds) (is_written (held_list d.admitted) d.room)
 
   -- a list that can be written is, where there is room
-  pub writes : decided (writing_checks version policy (length list) list) ≡ Admitted → length (sheet_of version policy (map task_in list)) ≤ length before
-      → (list_written version policy list before ≡ Bytes (length (sheet_of version policy (map task_in list)))) × (list_left version policy list before ≡ laid (sheet_of version policy (map task_in list)) before)
+  pub writes : decided (writing_checks version policy (length list) list) ≡ Ok tt → length (sheet_of version policy (map task_in list)) ≤ length before
+      → (list_written version policy list before ≡ Ok (length (sheet_of version policy (map task_in list)))) × (list_left version policy list before ≡ laid (sheet_of version policy (map task_in list)) before)
   unfolding list_written list_left writing_list
   writes a h =
-      let d = done Room not_written (writing_list version policy list) before (none_applies (writing_checks version policy (length list) list) a) h in
+      let d = done Room (writing_list version policy list) before (none_applies (writing_checks version policy (length list) list) a) h in
       (d.answer, d.holds)
 
 -- ---- converting
 
 -- `convert` is refused and leaves the bytes as they were, or the conversion stands first.
-pub data Converted (version : ℕ) (sheet before : List ℕ) : Written → List ℕ → Type 0 where
-  no_conversion : (why : Refusal) → Converted version sheet before (not_written why) before
+pub data Converted (version : ℕ) (sheet before : List ℕ) : Result ℕ Refusal → List ℕ → Type 0 where
+  no_conversion : (why : Refusal) → Converted version sheet before (Err why) before
   is_converted : Convertible version sheet → length (conversion version sheet) ≤ length before
-      → Converted version sheet before (Bytes (length (conversion version sheet))) (laid (conversion version sheet) before)
+      → Converted version sheet before (Ok (length (conversion version sheet))) (laid (conversion version sheet) before)
 
 module _ (version : ℕ) (sheet before : List ℕ) where
   pub convert_entry : Converted version sheet before (converted version sheet before) (converted_left version sheet before)
   unfolding converted converted_left converting
-  convert_entry = go (told Room not_written (converting version sheet) before)
+  convert_entry = go (told Room (converting version sheet) before)
     where
-      go : Told Room not_written (converting version sheet) before → Converted version sheet before (converted version sheet before) (converted_left version sheet before)
+      go : Told Room (converting version sheet) before → Converted version sheet before (converted version sheet before) (converted_left version sheet before)
       go (turned_away r t) = rw (t.answer, t.unchanged) (no_conversion r)
       go (is_done d) = rw (d.answer, d.holds) (is_converted ((convertible version sheet).0 d.admitted) d.room)
 
   -- a sheet that can be converted is, where there is room
   pub converts : Convertible version sheet → length (conversion version sheet) ≤ length before
-      → (converted version sheet before ≡ Bytes (length (conversion version sheet))) × (converted_left version sheet before ≡ laid (conversion version sheet) before)
+      → (converted version sheet before ≡ Ok (length (conversion version sheet))) × (converted_left version sheet before ≡ laid (conversion version sheet) before)
   unfolding converted converted_left converting
   converts c h =
-      let d = done Room not_written (converting version sheet) before ((convertible version sheet).1 c) h in
+      let d = done Room (converting version sheet) before ((convertible version sheet).1 c) h in
       (d.answer, d.holds)
 
 -- ---- the report
 
 -- A report on these tasks is one line that refuses, or the outcome's line and a line for each task.
 pub data Reported (policy : ℕ) (tasks : List Task) : List ℕ → Type 0 where
-  no_report : (why : Refusal) → Twelve why → Reported policy tasks (first_line (Refused why) (length tasks))
+  no_report : (why : Refusal) → Twelve why → Reported policy tasks (first_line (Err why) (length tasks))
   is_reported : Sound policy tasks
       → Reported policy tasks
-      (first_line (outcome_of policy tasks) (length tasks) ++ task_lines (priority_order policy tasks) (ordered_set policy tasks) 0 (length tasks))
-
-lines_printed : (policy : ℕ) (tasks : List Task) (o : Outcome) → outcome_of policy tasks ≡ o
-    → lines_behind o policy tasks ≡ task_lines (priority_order policy tasks) (ordered_set policy tasks) 0 (length tasks)
-unfolding lines_behind
-lines_printed policy tasks Holds e = refl
-lines_printed policy tasks (Missed p b) e = refl
-lines_printed policy tasks (Refused why) e = absurd (outcome_not_refused policy tasks why e)
+      (first_line (Ok (outcome_of policy tasks)) (length tasks) ++ task_lines (priority_order policy tasks) (ordered_set policy tasks) 0 (length tasks))
 
 -- of an admitted sheet the outcome is reported
-pub reports : (s : List ℕ) → (reading s).answer ≡ Admitted
+pub reports : (s : List ℕ) → decided (sheet_checks s) ≡ Ok tt
     → Sound (policy_of s) (tasks_of s)
     × (report s
-    ≡ first_line (outcome_of (policy_of s) (tasks_of s)) (length (tasks_of s)) ++ task_lines (priority_order (policy_of s) (tasks_of s)) (ordered_set (policy_of s) (tasks_of s)) 0 (length (tasks_of s)))
-unfolding report outcome_by
-reports s a =
-    let e : decided (sheet_checks s) ≡ Admitted = sym (reading_answer s) ∙ a in
-    (sound_sheet s (none_applies (sheet_checks s) e), rw (e, lines_printed (policy_of s) (tasks_of s) (outcome_of (policy_of s) (tasks_of s)) refl))
+    ≡ first_line (Ok (outcome_of (policy_of s) (tasks_of s))) (length (tasks_of s))
+    ++ task_lines (priority_order (policy_of s) (tasks_of s)) (ordered_set (policy_of s) (tasks_of s)) 0 (length (tasks_of s)))
+unfolding report outcome_by lines_behind
+reports s e = (sound_sheet s (none_applies (sheet_checks s) e), rw e)
 
 -- `report_text`
 pub report_entry : (s : List ℕ) → Reported (policy_of s) (tasks_of s) (report s)
 unfolding report
 report_entry s = go (decided (sheet_checks s)) refl
   where
-    go : (a : Answer) → decided (sheet_checks s) ≡ a
+    go : (a : Result Unit Refusal) → decided (sheet_checks s) ≡ a
         → Reported (policy_of s) (tasks_of s) (first_line (outcome_by a (policy_of s) (tasks_of s)) (length (tasks_of s)) ++ lines_behind (outcome_by a (policy_of s) (tasks_of s)) (policy_of s) (tasks_of s))
-    go Admitted e =
-        unfold outcome_by in
-        rw (lines_printed (policy_of s) (tasks_of s) (outcome_of (policy_of s) (tasks_of s)) refl) (is_reported (sound_sheet s (none_applies (sheet_checks s) e)))
-    go (turned why) e =
+    go (Ok tt) e = unfold outcome_by lines_behind in is_reported (sound_sheet s (none_applies (sheet_checks s) e))
+    go (Err why) e =
         unfold outcome_by lines_behind in
-        rw (append-nil (first_line (Refused why) (length (tasks_of s)))) (no_report why (each_first Twelve (sheet_checks s) (sheet_twelve s) why (one_applies (sheet_checks s) why e)))
+        rw (append-nil (first_line (Err why) (length (tasks_of s)))) (no_report why (each_first Twelve (sheet_checks s) (sheet_twelve s) why (one_applies (sheet_checks s) why e)))
 
 -- `write_report` is refused for want of room and leaves the bytes as they were, or the text stands first.
-pub data Printed (sheet before : List ℕ) : Written → List ℕ → Type 0 where
-  no_room : Printed sheet before (not_written Room) before
-  is_printed : length (report sheet) ≤ length before → Printed sheet before (Bytes (length (report sheet))) (laid (report sheet) before)
+pub data Printed (sheet before : List ℕ) : Result ℕ Refusal → List ℕ → Type 0 where
+  no_room : Printed sheet before (Err Room) before
+  is_printed : length (report sheet) ≤ length before → Printed sheet before (Ok (length (report sheet))) (laid (report sheet) before)
 
 pub print_entry : (sheet before : List ℕ) → Printed sheet before (report_written sheet before) (report_left sheet before)
 unfolding report_written report_left reporting
 print_entry sheet before = go (dec_lt (length before) (length (report sheet)))
   where
     go : Dec (length before < length (report sheet)) → Printed sheet before (report_written sheet before) (report_left sheet before)
-    go (yes h) = let t = by_room Room not_written (reporting sheet) before no_check h in rw (t.answer, t.unchanged) no_room
-    go (no h) = let d = done Room not_written (reporting sheet) before no_check (omega arith) in rw (d.answer, d.holds) (is_printed (omega arith))
+    go (yes h) = let t = by_room Room (reporting sheet) before no_check h in rw (t.answer, t.unchanged) no_room
+    go (no h) = let d = done Room (reporting sheet) before no_check (omega arith) in rw (d.answer, d.holds) (is_printed (omega arith))
 
 -- ---- a sheet that its own checks turn away
 
-module _ (sheet : List ℕ) (r : Refusal) (e : first_refusal (sheet_checks sheet) ≡ some r) where
-  pub sheet_turned : (before : List ℕ) → (sheet_decision sheet before ≡ refused_decision r) × (sheet_left sheet before ≡ before)
+module _ (sheet : List ℕ) (r : Refusal) (e : first_refusal (sheet_checks sheet) ≡ Some r) where
+  pub sheet_turned : (before : List ℕ) → (sheet_decision sheet before ≡ Err r) × (sheet_left sheet before ≡ before)
   unfolding sheet_decision sheet_left sheet_analysing analysing
-  sheet_turned before = let t = by_checks Room refused_decision (sheet_analysing sheet) before r e in (t.answer, t.unchanged)
+  sheet_turned before = let t = by_checks Room (sheet_analysing sheet) before r e in (t.answer, t.unchanged)
 
   pub check_turned : (before : List ℕ) → (entry_number sheet before ≡ number_of r) × (entry_left sheet before ≡ before)
   unfolding entry_number entry_left checking
-  check_turned before = let t = by_checks Room number_of (checking sheet) before r e in (t.answer, t.unchanged)
+  check_turned before = let t = by_checks Room (checking sheet) before r e in (ap code t.answer, t.unchanged)
 
-  pub report_turned : report sheet ≡ first_line (Refused r) (length (tasks_of sheet))
+  pub report_turned : report sheet ≡ first_line (Err r) (length (tasks_of sheet))
   unfolding report outcome_by lines_behind
-  report_turned = rw (refuses (sheet_checks sheet) r e) (append-nil (first_line (Refused r) (length (tasks_of sheet))))
+  report_turned = rw (refuses (sheet_checks sheet) r e) (append-nil (first_line (Err r) (length (tasks_of sheet))))
 
-  pub read_turned : (before : List Record) → (list_read sheet before ≡ not_read r) × (list_filled sheet before ≡ before)
+  pub read_turned : (before : List Record) → (list_read sheet before ≡ Err r) × (list_filled sheet before ≡ before)
   unfolding list_read list_filled reading_list
-  read_turned before = let t = by_checks Room not_read (reading_list sheet) before r e in (t.answer, t.unchanged)
+  read_turned before = let t = by_checks Room (reading_list sheet) before r e in (t.answer, t.unchanged)
 
 -- ---- which refusal
 
-module _ {A X : Type 0} (refused : Refusal → X) (call : Call Refusal A X) (before : List A) (needs : ℕ) (size : decided call.checks ≡ Admitted → length call.writes ≡ needs) where
+module _ {A X : Type 0} (call : Call Refusal A X) (before : List A) (needs : ℕ) (size : decided call.checks ≡ Ok tt → length call.writes ≡ needs) where
   which : refusal_of Room call before ≡ refusal_to (decided call.checks) needs (length before)
   unfolding refusal_of
   which = go (decided call.checks) refl
     where
-      last : (b : Bool) → first_refusal ((b ⇒ Room) ∷ []) ≡ cond b (some Room) none
+      last : (b : Bool) → first_refusal ((b ⇒ Room) ∷ []) ≡ cond b (Some Room) None
       last true = unfold first_refusal in refl
       last false = unfold first_refusal in refl
 
-      go : (a : Answer) → decided call.checks ≡ a → refusal_of Room call before ≡ refusal_to a needs (length before)
-      go (turned why) e = unfold refusal_to in some_first call.checks _ why (one_applies call.checks why e)
-      go Admitted e =
+      go : (a : Result Unit Refusal) → decided call.checks ≡ a → refusal_of Room call before ≡ refusal_to a needs (length before)
+      go (Err why) e = unfold refusal_to in some_first call.checks _ why (one_applies call.checks why e)
+      go (Ok tt) e =
           unfold refusal_to in
           none_first call.checks _ (none_applies call.checks e)
           ∙ last (ltb (length before) (length call.writes))
-          ∙ ap (λ (n : ℕ). cond (ltb (length before) n) (some Room) none) (size e)
+          ∙ ap (λ (n : ℕ). cond (ltb (length before) n) (Some Room) None) (size e)
 
-  refused_says : (why : Refusal) → refusal_of Room call before ≡ some why → answered Room refused call before ≡ refused why
+  refused_says : (why : Refusal) → refusal_of Room call before ≡ Some why → answered Room call before ≡ Err why
   unfolding answered
   refused_says why e = rw (e, answered)
 
-  module _ (never : (r : Refusal) → ¬ (call.says ≡ refused r)) (apart : (q r : Refusal) → refused q ≡ refused r → q ≡ r) where
-    why_said : (why : Refusal) → answered Room refused call before ≡ refused why → refusal_of Room call before ≡ some why
-    why_said why e = go (told Room refused call before)
-      where
-        go : Told Room refused call before → refusal_of Room call before ≡ some why
-        go (turned_away q t) = t.why ∙ ap some (apart q why (sym t.answer ∙ e))
-        go (is_done d) = absurd (never why (sym d.answer ∙ e))
+  why_said : (why : Refusal) → answered Room call before ≡ Err why → refusal_of Room call before ≡ Some why
+  why_said why e = go (told Room call before)
+    where
+      go : Told Room call before → refusal_of Room call before ≡ Some why
+      go (turned_away q t) = let same : Err q ≡ Err why = sym t.answer ∙ e in let same : q ≡ why = cc in t.why ∙ ap Some same
+      go (is_done d) = let clash : Ok call.says ≡ Err why = sym d.answer ∙ e in cc
 
-    exactly : (why : Refusal) → (answered Room refused call before ≡ refused why) ↔ (refusal_to (decided call.checks) needs (length before) ≡ some why)
-    exactly why = (λ e. sym which ∙ why_said why e, λ e. refused_says why (which ∙ e))
-
--- what is decided of tasks is no refusal, and refusals are told apart
-pub not_refused : (policy : ℕ) (tasks : List Task) (r : Refusal) → ¬ (decision policy tasks ≡ refused_decision r)
-not_refused policy tasks r e = outcome_not_refused policy tasks r (ap (λ (d : Decision). d.outcome) e)
-
-pub refusals_apart : (q r : Refusal) → refused_decision q ≡ refused_decision r → q ≡ r
-refusals_apart q r e =
-    let z : Refused q ≡ Refused r = ap (λ (d : Decision). d.outcome) e in
-    let z : q ≡ r = cc in
-    z
+  exactly : (why : Refusal) → (answered Room call before ≡ Err why) ↔ (refusal_to (decided call.checks) needs (length before) ≡ Some why)
+  exactly why = (λ e. sym which ∙ why_said why e, λ e. refused_says why (which ∙ e))
 
 sound_times : (policy : ℕ) (tasks : List Task) → Sound policy tasks → length (times_of policy tasks) ≡ most_frames * length tasks
 sound_times policy tasks sound = times_long policy tasks sound.carried.counted
 
 pub set_exactly : (s : TaskSet) (before : List ℕ) → length s.tasks ≡ most_tasks → (why : Refusal)
-    → (set_decision s before ≡ refused_decision why) ↔ (refusal_to (admission s) (most_frames * length (map task_in (records_of s))) (length before) ≡ some why)
+    → (set_decision s before ≡ Err why) ↔ (refusal_to (admission s) (most_frames * length (map task_in (records_of s))) (length before) ≡ Some why)
 unfolding set_decision set_analysing analysing admission
 set_exactly s before sixteen =
-    exactly refused_decision (set_analysing s) before (most_frames * length (map task_in (records_of s)))
+    exactly (set_analysing s) before (most_frames * length (map task_in (records_of s)))
     (λ e. sound_times _ _ (sound_set s sixteen (none_applies (list_checks s.policy s.task_count (records_of s)) e)))
-    (not_refused _ _) refusals_apart
 
 pub list_exactly : (policy : ℕ) (list : List Record) (before : List ℕ) (why : Refusal)
-    → (list_analysed policy list before ≡ refused_decision why) ↔ (refusal_to (decided (list_checks policy (length list) list)) (most_frames * length (map task_in list)) (length before) ≡ some why)
+    → (list_analysed policy list before ≡ Err why) ↔ (refusal_to (decided (list_checks policy (length list) list)) (most_frames * length (map task_in list)) (length before) ≡ Some why)
 unfolding list_analysed analysing_list analysing
 list_exactly policy list before =
-    exactly refused_decision (analysing_list policy list) before (most_frames * length (map task_in list))
+    exactly (analysing_list policy list) before (most_frames * length (map task_in list))
     (λ e. sound_times _ _ (sound_list policy list (none_applies (list_checks policy (length list) list) e)))
-    (not_refused _ _) refusals_apart
 
 pub write_exactly : (version policy : ℕ) (list : List Record) (before : List ℕ) (why : Refusal)
-    → (list_written version policy list before ≡ not_written why)
-    ↔ (refusal_to (decided (writing_checks version policy (length list) list)) (length (sheet_of version policy (map task_in list))) (length before) ≡ some why)
+    → (list_written version policy list before ≡ Err why)
+    ↔ (refusal_to (decided (writing_checks version policy (length list) list)) (length (sheet_of version policy (map task_in list))) (length before) ≡ Some why)
 unfolding list_written writing_list
-write_exactly version policy list before =
-    exactly not_written (writing_list version policy list) before (length (sheet_of version policy (map task_in list))) (λ e. refl)
-    (λ r e. let z : ◌≡◌ {A = ℕ} 0 1 = cc in omega arith) (λ q r e. let z : q ≡ r = cc in z)
+write_exactly version policy list before = exactly (writing_list version policy list) before (length (sheet_of version policy (map task_in list))) (λ e. refl)
 
 -- it answers a refusal exactly where its order gives it
 pub convert_said : (version : ℕ) (sheet before : List ℕ) (why : Refusal)
-    → (converted version sheet before ≡ not_written why) ↔ (refusal_of Room (converting version sheet) before ≡ some why)
+    → (converted version sheet before ≡ Err why) ↔ (refusal_of Room (converting version sheet) before ≡ Some why)
 unfolding converted converting
 convert_said version sheet before why =
-    let size = length (conversion version sheet) in (
-      λ e. why_said not_written (converting version sheet) before size (λ q. refl) (λ r q. let z : ◌≡◌ {A = ℕ} 0 1 = cc in omega arith) (λ q r d. let z : q ≡ r = cc in z) why e,
-      refused_says not_written (converting version sheet) before size (λ q. refl) why,
-    )
+    let size = length (conversion version sheet) in
+    (why_said (converting version sheet) before size (λ q. refl) why, refused_says (converting version sheet) before size (λ q. refl) why)
 
 pub convert_exactly : (version : ℕ) (sheet before : List ℕ) (why : Refusal)
-    → (converted version sheet before ≡ not_written why)
-    ↔ (refusal_to (decided (converting_checks version sheet)) (length (conversion version sheet)) (length before) ≡ some why)
+    → (converted version sheet before ≡ Err why)
+    ↔ (refusal_to (decided (converting_checks version sheet)) (length (conversion version sheet)) (length before) ≡ Some why)
 unfolding converted converting
-convert_exactly version sheet before =
-    exactly not_written (converting version sheet) before (length (conversion version sheet)) (λ e. refl)
-    (λ r e. let z : ◌≡◌ {A = ℕ} 0 1 = cc in omega arith) (λ q r e. let z : q ≡ r = cc in z)
+convert_exactly version sheet before = exactly (converting version sheet) before (length (conversion version sheet)) (λ e. refl)
 
 module _ (sheet : List ℕ) where
-  sheet_long : decided (sheet_checks sheet) ≡ Admitted → length (times_of (policy_of sheet) (tasks_of sheet)) ≡ most_frames * length (tasks_of sheet)
+  sheet_long : decided (sheet_checks sheet) ≡ Ok tt → length (times_of (policy_of sheet) (tasks_of sheet)) ≡ most_frames * length (tasks_of sheet)
   sheet_long e = sound_times _ _ (sound_sheet sheet (none_applies (sheet_checks sheet) e))
 
   pub sheet_exactly : (before : List ℕ) (why : Refusal)
-      → (sheet_decision sheet before ≡ refused_decision why) ↔ (refusal_to (reading sheet).answer (most_frames * length (tasks_of sheet)) (length before) ≡ some why)
+      → (sheet_decision sheet before ≡ Err why) ↔ (refusal_to (reading sheet) (most_frames * length (tasks_of sheet)) (length before) ≡ Some why)
   unfolding sheet_decision sheet_analysing analysing
   sheet_exactly before why =
-      rw (reading_answer sheet)
-      (exactly refused_decision (sheet_analysing sheet) before (most_frames * length (tasks_of sheet)) sheet_long (not_refused _ _) refusals_apart why)
+      rw (same_refusal sheet (most_frames * length (tasks_of sheet)) (length before))
+      (exactly (sheet_analysing sheet) before (most_frames * length (tasks_of sheet)) sheet_long why)
 
   pub read_exactly : (before : List Record) (why : Refusal)
-      → (list_read sheet before ≡ not_read why) ↔ (refusal_to (reading sheet).answer (length (tasks_of sheet)) (length before) ≡ some why)
+      → (list_read sheet before ≡ Err why) ↔ (refusal_to (reading sheet) (length (tasks_of sheet)) (length before) ≡ Some why)
   unfolding list_read reading_list
   read_exactly before why =
-      rw (reading_answer sheet)
-      (exactly not_read (reading_list sheet) before (length (tasks_of sheet)) (λ e. length-map (tasks_of sheet) record_of)
-      (λ r e. let z : ◌≡◌ {A = ℕ} 0 1 = cc in omega arith) (λ q r e. let z : q ≡ r = cc in z) why)
+      rw (same_refusal sheet (length (tasks_of sheet)) (length before))
+      (exactly (reading_list sheet) before (length (tasks_of sheet)) (λ e. length-map (tasks_of sheet) record_of) why)
 
   -- the number of a refusal, and an outcome where there is none
   pub check_exactly : (before : List ℕ)
-      → ((why : Refusal) → refusal_to (reading sheet).answer (4 * (most_frames * length (tasks_of sheet))) (length before) ≡ some why → entry_number sheet before ≡ number_of why)
-      × (refusal_to (reading sheet).answer (4 * (most_frames * length (tasks_of sheet))) (length before) ≡ none → entry_number sheet before ≡ code (outcome_of (policy_of sheet) (tasks_of sheet)))
+      → ((why : Refusal) → refusal_to (reading sheet) (4 * (most_frames * length (tasks_of sheet))) (length before) ≡ Some why → entry_number sheet before ≡ number_of why)
+      × (refusal_to (reading sheet) (4 * (most_frames * length (tasks_of sheet))) (length before) ≡ None → entry_number sheet before ≡ code (Ok (outcome_of (policy_of sheet) (tasks_of sheet))))
   unfolding entry_number checking answered
   check_exactly before =
-      let same = ap (λ (a : Answer). refusal_to a (4 * (most_frames * length (tasks_of sheet))) (length before)) (reading_answer sheet) in
-      let is = which number_of (checking sheet) before (4 * (most_frames * length (tasks_of sheet))) (λ e. length_four _ ∙ ap (λ (n : ℕ). 4 * n) (sheet_long e)) in (
-        λ why e. refused_says number_of (checking sheet) before (4 * (most_frames * length (tasks_of sheet))) (λ e. length_four _ ∙ ap (λ (n : ℕ). 4 * n) (sheet_long e)) why (is ∙ sym same ∙ e),
-        λ e. rw (is ∙ sym same ∙ e, answered),
+      let needs = 4 * (most_frames * length (tasks_of sheet)) in
+      let size = λ (e : decided (sheet_checks sheet) ≡ Ok tt). length_four _ ∙ ap (λ (n : ℕ). 4 * n) (sheet_long e) in
+      let is = which (checking sheet) before needs size ∙ sym (same_refusal sheet needs (length before)) in (
+        λ why e. ap code (refused_says (checking sheet) before needs size why (is ∙ e)),
+        λ e. rw (is ∙ e, answered),
       )
 
 pub print_exactly : (sheet before : List ℕ) (why : Refusal)
-    → (report_written sheet before ≡ not_written why) ↔ (refusal_to Admitted (length (report sheet)) (length before) ≡ some why)
+    → (report_written sheet before ≡ Err why) ↔ (refusal_to {T = Unit {0}} (Ok tt) (length (report sheet)) (length before) ≡ Some why)
 unfolding report_written reporting decided first_refusal
-print_exactly sheet before =
-    exactly not_written (reporting sheet) before (length (report sheet)) (λ e. refl)
-    (λ r e. let z : ◌≡◌ {A = ℕ} 0 1 = cc in omega arith) (λ q r e. let z : q ≡ r = cc in z)
+print_exactly sheet before = exactly (reporting sheet) before (length (report sheet)) (λ e. refl)
 
 -- ---- a refused call changes nothing
 
-module _ {A X : Type 0} (refused : Refusal → X) (call : Call Refusal A X) (never : (r : Refusal) → ¬ (call.says ≡ refused r)) (before : List A) where
-  unchanged : (r : Refusal) → answered Room refused call before ≡ refused r → left_after Room call before ≡ before
-  unchanged r e = go (told Room refused call before)
+module _ {A X : Type 0} (call : Call Refusal A X) (before : List A) where
+  unchanged : (r : Refusal) → answered Room call before ≡ Err r → left_after Room call before ≡ before
+  unchanged r e = go (told Room call before)
     where
-      go : Told Room refused call before → left_after Room call before ≡ before
+      go : Told Room call before → left_after Room call before ≡ before
       go (turned_away q t) = t.unchanged
-      go (is_done d) = absurd (never r (sym d.answer ∙ e))
+      go (is_done d) = let clash : Ok call.says ≡ Err r = sym d.answer ∙ e in cc
 
 module _ (r : Refusal) where
-  pub set_unchanged : (s : TaskSet) (before : List ℕ) → set_decision s before ≡ refused_decision r → set_left s before ≡ before
-  unfolding set_decision set_left set_analysing analysing
-  set_unchanged s before = unchanged refused_decision (set_analysing s) (not_refused _ _) before r
+  pub set_unchanged : (s : TaskSet) (before : List ℕ) → set_decision s before ≡ Err r → set_left s before ≡ before
+  unfolding set_decision set_left
+  set_unchanged s before = unchanged (set_analysing s) before r
 
-  pub sheet_unchanged : (s before : List ℕ) → sheet_decision s before ≡ refused_decision r → sheet_left s before ≡ before
-  unfolding sheet_decision sheet_left sheet_analysing analysing
-  sheet_unchanged s before = unchanged refused_decision (sheet_analysing s) (not_refused _ _) before r
+  pub sheet_unchanged : (s before : List ℕ) → sheet_decision s before ≡ Err r → sheet_left s before ≡ before
+  unfolding sheet_decision sheet_left
+  sheet_unchanged s before = unchanged (sheet_analysing s) before r
 
-  pub list_unchanged : (policy : ℕ) (list : List Record) (before : List ℕ) → list_analysed policy list before ≡ refused_decision r → list_times policy list before ≡ before
-  unfolding list_analysed list_times analysing_list analysing
-  list_unchanged policy list before = unchanged refused_decision (analysing_list policy list) (not_refused _ _) before r
+  pub list_unchanged : (policy : ℕ) (list : List Record) (before : List ℕ) → list_analysed policy list before ≡ Err r → list_times policy list before ≡ before
+  unfolding list_analysed list_times
+  list_unchanged policy list before = unchanged (analysing_list policy list) before r
 
-  pub read_unchanged : (sheet : List ℕ) (before : List Record) → list_read sheet before ≡ not_read r → list_filled sheet before ≡ before
-  unfolding list_read list_filled reading_list
-  read_unchanged sheet before = unchanged not_read (reading_list sheet) (λ q e. let z : ◌≡◌ {A = ℕ} 0 1 = cc in omega arith) before r
+  pub read_unchanged : (sheet : List ℕ) (before : List Record) → list_read sheet before ≡ Err r → list_filled sheet before ≡ before
+  unfolding list_read list_filled
+  read_unchanged sheet before = unchanged (reading_list sheet) before r
 
-  pub write_unchanged : (version policy : ℕ) (list : List Record) (before : List ℕ) → list_written version policy list before ≡ not_written r → list_left version policy list before ≡ before
-  unfolding list_written list_left writing_list
-  write_unchanged version policy list before = unchanged not_written (writing_list version policy list) (λ q e. let z : ◌≡◌ {A = ℕ} 0 1 = cc in omega arith) before r
+  pub write_unchanged : (version policy : ℕ) (list : List Record) (before : List ℕ) → list_written version policy list before ≡ Err r → list_left version policy list before ≡ before
+  unfolding list_written list_left
+  write_unchanged version policy list before = unchanged (writing_list version policy list) before r
 
-  pub convert_unchanged : (version : ℕ) (sheet before : List ℕ) → converted version sheet before ≡ not_written r → converted_left version sheet before ≡ before
-  unfolding converted converted_left converting
-  convert_unchanged version sheet before = unchanged not_written (converting version sheet) (λ q e. let z : ◌≡◌ {A = ℕ} 0 1 = cc in omega arith) before r
+  pub convert_unchanged : (version : ℕ) (sheet before : List ℕ) → converted version sheet before ≡ Err r → converted_left version sheet before ≡ before
+  unfolding converted converted_left
+  convert_unchanged version sheet before = unchanged (converting version sheet) before r
 
-  pub print_unchanged : (sheet before : List ℕ) → report_written sheet before ≡ not_written r → report_left sheet before ≡ before
-  unfolding report_written report_left reporting
-  print_unchanged sheet before = unchanged not_written (reporting sheet) (λ q e. let z : ◌≡◌ {A = ℕ} 0 1 = cc in omega arith) before r
+  pub print_unchanged : (sheet before : List ℕ) → report_written sheet before ≡ Err r → report_left sheet before ≡ before
+  unfolding report_written report_left
+  print_unchanged sheet before = unchanged (reporting sheet) before r

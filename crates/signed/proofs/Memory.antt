@@ -1,13 +1,14 @@
 -- Times laid over lent memory: they are read back from there, and the rest is as it was.
 use mathlib.Core.List.{List, [], ◌∷◌, ◌++◌, append_assoc}
-use mathlib.Core.Path.{◌≡◌, sym, ap, ap₂, ◌∙◌}
-use Prim.Native.Nat.{ℕ, zero, suc, ◌+◌, ◌*◌, ◌/◌, ◌%◌, ◌^◌, ◌≤◌, ◌<◌}
-use native.Mathlib.Nat.{div-add-mod', mod-eq_of_lt}
+use mathlib.Core.Path.{◌≡◌, ap, ap₂, ◌∙◌}
+use Prim.Native.Nat.{ℕ, zero, suc, ◌+◌, ◌*◌, ◌^◌, ◌≤◌, ◌<◌}
 use native.Mathlib.Omega.{arith}
 use lib.Dec.{lit<}
 use lib.ListN.{length, get_or, drop, length-append, length-drop, get_or-append}
-use lib.Pow.{shr-shr}
 use lib.Seq.{drop_at, get_or-append-add}
+use Rattle.std.specs.Int.{w32, to_be_bytes}
+use Rattle.std.proofs.lemmas.Nat.{from_be_bytes-to_be_bytes_4}
+use Rattle.std.proofs.lemmas.List.{get_or-drop}
 use Rattle.bits.specs.Packed.{digits, bytes_of}
 use Rattle.bits.proofs.Laws.{length_bytes}
 use Rattle.lent.specs.Lent.{laid}
@@ -44,28 +45,16 @@ four_at (t ∷ ts) rest (suc j) b h l =
     ∙ get_or-append-add first (as_bytes ts ++ rest) (4 * j + b) 0
     ∙ four_at ts rest j b (omega arith) l
 
-four_add : (t a b c r₀ r₁ r₂ r₃ : ℕ) → a * 256 + r₀ ≡ t → b * 256 + r₁ ≡ a → c * 256 + r₂ ≡ b → r₃ ≡ c
-    → r₃ * 2 ^ 24 + r₂ * 2 ^ 16 + r₁ * 2 ^ 8 + r₀ ≡ t
-four_add t a b c r₀ r₁ r₂ r₃ e₀ e₁ e₂ e₃ = omega arith
-
-four_sum : (t : ℕ) → t < 2 ^ 32 → t / 2 ^ 24 % 256 * 2 ^ 24 + t / 2 ^ 16 % 256 * 2 ^ 16 + t / 2 ^ 8 % 256 * 2 ^ 8 + t % 256 ≡ t
-four_sum t h =
-    let small : t / 2 ^ 24 < 256 = omega arith in
-    four_add t (t / 2 ^ 8) (t / 2 ^ 16) (t / 2 ^ 24) _ _ _ _
-    (div-add-mod' t 256)
-    (ap (λ (x : ℕ). x * 256 + t / 2 ^ 8 % 256) (sym (shr-shr t 8 8)) ∙ div-add-mod' (t / 2 ^ 8) 256)
-    (ap (λ (x : ℕ). x * 256 + t / 2 ^ 16 % 256) (sym (shr-shr t 16 8)) ∙ div-add-mod' (t / 2 ^ 16) 256)
-    (mod-eq_of_lt small)
-
 module _ (ts rest : List ℕ) (j : ℕ) (h : j < length ts) where
-  byte_at : (b : ℕ) → b < 4 → get_or (as_bytes ts ++ rest) (4 * j + b) 0 ≡ get_or (get_or ts j 0 / 2 ^ 24 % 256 ∷ get_or ts j 0 / 2 ^ 16 % 256 ∷ get_or ts j 0 / 2 ^ 8 % 256 ∷ get_or ts j 0 % 256 ∷ []) b 0
-  byte_at b l = four_at ts rest j b h l ∙ ap (λ (m : List ℕ). get_or m b 0) (four_of (get_or ts j 0))
+  byte_at : (b : ℕ) → b < 4 → get_or (drop (4 * j) (as_bytes ts ++ rest)) b 0 ≡ get_or (to_be_bytes w32 (get_or ts j 0)) b 0
+  byte_at b l =
+      get_or-drop (4 * j) (as_bytes ts ++ rest) b 0
+      ∙ four_at ts rest j b h l ∙ ap (λ (m : List ℕ). get_or m b 0) (four_of (get_or ts j 0))
 
   four_read : get_or ts j 0 < 2 ^ 32 → time_in in_bytes (as_bytes ts ++ rest) j ≡ get_or ts j 0
   unfolding time_in
   four_read small =
-      let first : 4 * j ≡ 4 * j + 0 = omega arith in
-      rw (ap (λ (i : ℕ). get_or (as_bytes ts ++ rest) i 0) first ∙ byte_at 0 (lit< tt), byte_at 1 (lit< tt), byte_at 2 (lit< tt), byte_at 3 (lit< tt)) (four_sum (get_or ts j 0) small)
+      rw (byte_at 0 (lit< tt), byte_at 1 (lit< tt), byte_at 2 (lit< tt), byte_at 3 (lit< tt)) (from_be_bytes-to_be_bytes_4 (get_or ts j 0) small)
 
 -- ---- laid over memory
 

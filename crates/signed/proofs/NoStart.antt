@@ -1,10 +1,9 @@
 -- Refusal 11 says why: the task that it names has no start, and its numbers are the reason.
+use Rattle.std.specs.Prelude.{Err, None, Ok, Result, Some}
 use mathlib.Core.Bool.{Bool, true, false, cond}
 use mathlib.Core.List.{List, map}
-use mathlib.Core.Option.{none, some}
-use mathlib.Core.Path.{◌≡◌, sym, ap, ◌∙◌}
+use mathlib.Core.Path.{◌≡◌, ap}
 use Prim.Native.Nat.{ℕ}
-use native.Mathlib.Omega.{arith}
 use lib.Dec.{ltb}
 use Rattle.theory.specs.Tasks.{Task, task_at}
 use Rattle.theory.proofs.Laws.{reason_is}
@@ -14,22 +13,16 @@ use Rattle.sheet.specs.Admission.{decided, reason_of, list_checks}
 use Rattle.sheet.specs.Reading.{tasks_of, reading}
 use Rattle.sheet.specs.Writing.{writing_checks}
 use Rattle.sheet.specs.declared.Task.{Task as Record}
-use Rattle.sheet.specs.declared.Answer.{Answer}
-use Rattle.sheet.specs.declared.Answer.TheVariants.{Admitted, Refused}
 use Rattle.sheet.specs.declared.Reason.{Reason}
 use Rattle.sheet.specs.declared.Refusal.{Refusal}
 use Rattle.sheet.specs.declared.Refusal.TheVariants.{Length, CheckWord, Version, Policy, BitSet, TaskCount, FrameCount, Records, IllFormed, Lock, NotMonotonic, Room, Deadlines}
 use Rattle.sheet.proofs.Checks.{one_applies}
+use Rattle.sheet.proofs.Carried.{reading_refuses}
 use Rattle.sheet.proofs.Refused.{Covers, list_each, sheet_each, writing_each}
-use Rattle.sheet.proofs.Carried.{reading_answer}
 use Rattle.converter.specs.Converting.{converting_checks}
 use Rattle.converter.proofs.Outcomes.{converting_each}
-use Rattle.analysis.specs.Answers.{refused_decision}
-use Rattle.analysis.specs.declared.Outcome.TheVariants.{Refused as not_analysed}
 use Rattle.analysis.specs.declared.Decision.{Decision}
-use Rattle.analysis.proofs.Promises.{outcome_not_refused}
-use Rattle.signed.specs.Claims.{Kept, NoStart, refusal_to}
-use Rattle.signed.proofs.Entries.{Analysed, is_refused, is_analysed}
+use Rattle.signed.specs.Claims.{outcome_told, NoStart, refusal_to}
 
 -- what a refusal says of tasks: 11 says why, the others say nothing of it
 unfoldable Says : List Task → Refusal → Type 0
@@ -64,37 +57,37 @@ says tasks =
       of_monotony = λ i h few none_starts. record { in_set = h; none_qualifies = none_starts; reason = λ has. reason_is (task_at tasks i) has none_starts };
     }
 
-pub list_why : (policy n : ℕ) (rs : List Record) (i : ℕ) (why : Reason) → decided (list_checks policy n rs) ≡ Refused (NotMonotonic i why) → NoStart (map task_in rs) i why
+pub list_why : (policy n : ℕ) (rs : List Record) (i : ℕ) (why : Reason) → decided (list_checks policy n rs) ≡ Err (NotMonotonic i why) → NoStart (map task_in rs) i why
 unfolding Says
 list_why policy n rs i why e = each_first (Says (map task_in rs)) _ (list_each policy n rs (says (map task_in rs))) (NotMonotonic i why) (one_applies _ _ e)
 
 pub writing_why : (version policy n : ℕ) (rs : List Record) (i : ℕ) (why : Reason)
-    → decided (writing_checks version policy n rs) ≡ Refused (NotMonotonic i why) → NoStart (map task_in rs) i why
+    → decided (writing_checks version policy n rs) ≡ Err (NotMonotonic i why) → NoStart (map task_in rs) i why
 unfolding Says
 writing_why version policy n rs i why e =
     each_first (Says (map task_in rs)) _ (writing_each version policy n rs tt (says (map task_in rs))) (NotMonotonic i why) (one_applies _ _ e)
 
-pub converting_why : (version : ℕ) (s : List ℕ) (i : ℕ) (why : Reason) → decided (converting_checks version s) ≡ Refused (NotMonotonic i why) → NoStart (tasks_of s) i why
+pub converting_why : (version : ℕ) (s : List ℕ) (i : ℕ) (why : Reason) → decided (converting_checks version s) ≡ Err (NotMonotonic i why) → NoStart (tasks_of s) i why
 unfolding Says
 converting_why version s i why e = each_first (Says (tasks_of s)) _ (converting_each version s tt (says (tasks_of s))) (NotMonotonic i why) (one_applies _ _ e)
 
-pub sheet_why : (s : List ℕ) (i : ℕ) (why : Reason) → (reading s).answer ≡ Refused (NotMonotonic i why) → NoStart (tasks_of s) i why
+pub sheet_why : (s : List ℕ) (i : ℕ) (why : Reason) → reading s ≡ Err (NotMonotonic i why) → NoStart (tasks_of s) i why
 unfolding Says
-sheet_why s i why e = each_first (Says (tasks_of s)) _ (sheet_each s (says (tasks_of s))) (NotMonotonic i why) (one_applies _ _ (sym (reading_answer s) ∙ e))
+sheet_why s i why e = each_first (Says (tasks_of s)) _ (sheet_each s (says (tasks_of s))) (NotMonotonic i why) (one_applies _ _ (reading_refuses s _ e))
 
 -- ---- 11 is a refusal of the input, and not of the room
 
-pub of_input : (a : Answer) (needs has i : ℕ) (why : Reason) → refusal_to a needs has ≡ some (NotMonotonic i why) → a ≡ Refused (NotMonotonic i why)
+pub of_input : {T : Type 0} (a : Result T Refusal) (needs has i : ℕ) (why : Reason) → refusal_to a needs has ≡ Some (NotMonotonic i why) → a ≡ Err (NotMonotonic i why)
 unfolding refusal_to
-of_input (Refused r) needs has i why e = ap Refused (cc)
-of_input Admitted needs has i why e = go (ltb has needs) e
+of_input (Err r) needs has i why e = ap Err (cc)
+of_input (Ok x) needs has i why e = go (ltb has needs) e
   where
-    go : (b : Bool) → cond b (some Room) none ≡ some (NotMonotonic i why) → Admitted ≡ Refused (NotMonotonic i why)
-    go true q = let z : ◌≡◌ {A = ℕ} 0 1 = cc in let z : ⊥ = omega arith in absurd z
-    go false q = let z : ◌≡◌ {A = ℕ} 0 1 = cc in let z : ⊥ = omega arith in absurd z
+    go : (b : Bool) → cond b (Some Room) None ≡ Some (NotMonotonic i why) → Ok x ≡ Err (NotMonotonic i why)
+    go true q = cc
+    go false q = cc
 
 -- an outcome that refuses is the whole answer
-pub refused_whole : {policy : ℕ} {tasks : List Task} {kept : Kept} {before after : List ℕ} {answer : Decision} → Analysed policy tasks kept before answer after
-    → (why : Refusal) → answer.outcome ≡ not_analysed why → answer ≡ refused_decision why
-refused_whole (is_refused q few) why e = let same : q ≡ why = cc in ap refused_decision same
-refused_whole {policy} {tasks} (is_analysed sound room) why e = absurd (outcome_not_refused policy tasks why e)
+pub refused_whole : (answer : Result Decision Refusal) (why : Refusal) → outcome_told answer ≡ Err why → answer ≡ Err why
+unfolding outcome_told
+refused_whole (Ok decision) why e = cc
+refused_whole (Err r) why e = let same : r ≡ why = cc in ap Err same

@@ -1,11 +1,11 @@
 -- A number says one thing: each answer comes back from its number.
+use Rattle.std.specs.Prelude.{Err, None, Ok, Option, Result, Some}
 use mathlib.Core.Bool.{true, false}
 use mathlib.Core.List.{List, map}
 use mathlib.Core.Logic.{◌⊎◌, inl, inr}
-use mathlib.Core.Option.{some}
-use mathlib.Core.Path.{◌≡◌, refl, sym, ap, ap₂, ◌∙◌}
+use mathlib.Core.Path.{◌≡◌, refl, ap, ap₂, ◌∙◌}
 use Prim.Native.Nat.{ℕ, ◌+◌, ◌-◌, ◌*◌, ◌/◌, ◌%◌, ◌≤◌, ◌<◌}
-use native.Mathlib.Nat.{zero-add, mod-eq_of_lt}
+use native.Mathlib.Nat.{mod-eq_of_lt}
 use native.Mathlib.Omega.{arith}
 use borrow.Author.Tests.{lt-ltb, le-ltb, eq-eqb, ne_eqb}
 use lib.Dec.{eqb, lit<, lit≤}
@@ -21,31 +21,22 @@ use Rattle.sheet.specs.declared.Task.{Task as Record}
 use Rattle.sheet.specs.declared.Reason.{Reason}
 use Rattle.sheet.specs.declared.Refusal.{Refusal}
 use Rattle.sheet.specs.declared.Refusal.TheVariants.{Length, CheckWord, Version, Policy, BitSet, TaskCount, FrameCount, Records, IllFormed, Lock, NotMonotonic, Room, Deadlines}
-use Rattle.sheet.specs.declared.Written.{Written}
-use Rattle.sheet.specs.declared.Written.TheVariants.{Bytes}
-use Rattle.sheet.specs.declared.Written.TheVariants.{TurnedAway as not_written}
 use Rattle.sheet.proofs.Refused.{Covers, list_each, sheet_each}
-use Rattle.order.specs.declared.Blocker.{Blocker}
-use Rattle.order.specs.declared.Blocker.TheVariants.{At, Nobody}
 use Rattle.analysis.specs.Answers.{blocker_code, code}
-use Rattle.analysis.specs.declared.Outcome.{Outcome}
-use Rattle.analysis.specs.declared.Outcome.TheVariants.{Holds, Missed}
-use Rattle.analysis.specs.declared.Outcome.TheVariants.{Refused as not_analysed}
+use Rattle.analysis.specs.declared.Decision.{Decision}
+use Rattle.analysis.specs.declared.Verdict.{Verdict}
+use Rattle.analysis.specs.declared.Verdict.TheVariants.{Holds, Missed}
 use Rattle.lists.specs.declared.ListRead.{ListRead}
-use Rattle.lists.specs.declared.ListRead.TheVariants.{Set}
-use Rattle.lists.specs.declared.ListRead.TheVariants.{TurnedAway as not_read}
 use Rattle.player.specs.declared.PlayRefusal.{PlayRefusal}
 use Rattle.player.specs.declared.PlayRefusal.TheVariants.{Base}
 use Rattle.player.specs.declared.Played.{Played}
-use Rattle.player.specs.declared.Played.TheVariants.{TurnedAway as not_played}
+use Rattle.player.specs.declared.Played.TheVariants.{Done}
+use Rattle.player.specs.declared.Played.TheVariants.{Missed as first_missed}
 use Rattle.player.proofs.Within.{RefusalWithin, own_within, script_within, item_within, Within, missed_within, done_within, turned_within}
-use Rattle.worst.specs.declared.Worst.{Worst}
-use Rattle.worst.specs.declared.Worst.TheVariants.{Written as script_written}
-use Rattle.worst.specs.declared.Worst.TheVariants.{Holds as set_holds, TurnedAway as no_script}
-use Rattle.workbench.specs.Numbers.{reason_number, refused_number, read_number, written_number, outcome_number, play_refused_number, played_number, worst_number}
+use Rattle.workbench.specs.Numbers.{reason_number, refused_number, answer_number, read_detail, written_detail, decision_detail, played_detail, worst_detail, read_number, written_number, decision_number, play_refused_number, played_number, worst_number}
 use Rattle.workbench.proofs.Small.{NamesBelow, names_more, room_names, sheet_names}
 use Rattle.signed.specs.Claims.{missed, refused, said}
-use Rattle.signed.specs.Numbers.{blocker_by, said_by, refusal_by, reason_by, refused_by, list_read_by, written_by, verdict_by, analysed_by, decision_by, ended_by, play_refused_by, played_by, script_by, worst_by}
+use Rattle.signed.specs.Numbers.{blocker_by, said_by, refusal_by, reason_by, refused_by, answer_by, listed_by, list_read_by, written_by, verdict_by, analysed_by, decision_by, ended_by, play_refused_by, played_by, script_by, worst_by}
 
 -- ---- refusals
 
@@ -114,19 +105,19 @@ list_twelve policy n rs = list_each policy n rs (numbered 12 (lit≤ tt) (map ta
 -- ---- the blocker
 
 -- a blocker that is named is below sixteen
-abbrev pub Few : Blocker → Type 0
-Few b = (q : ℕ) → b ≡ At q → q < most_tasks
+abbrev pub Few : Option ℕ → Type 0
+Few b = (q : ℕ) → b ≡ Some q → q < most_tasks
 
-blocker_back : (b : Blocker) → Few b → (blocker_by (blocker_code b) ≡ b) × (blocker_code b ≤ 16)
+blocker_back : (b : Option ℕ) → Few b → (blocker_by (blocker_code b) ≡ b) × (blocker_code b ≤ 16)
 unfolding blocker_by
-blocker_back (At q) h = let l = h q refl in (rw (ne_eqb q 16 (omega arith)), omega arith)
-blocker_back Nobody h = (refl, lit≤ tt)
+blocker_back (Some q) h = let l = h q refl in (rw (ne_eqb q 16 (omega arith)), omega arith)
+blocker_back None h = (refl, lit≤ tt)
 
 -- an outcome whose blocker is
-unfoldable pub FewOf : Outcome → Type 0
-FewOf Holds = Unit {0}
-FewOf (Missed p b) = Few b
-FewOf (not_analysed why) = Unit {0}
+unfoldable pub FewOf : Result Verdict Refusal → Type 0
+FewOf (Ok Holds) = Unit {0}
+FewOf (Ok (Missed p b)) = Few b
+FewOf (Err why) = Unit {0}
 
 module _ (p c : ℕ) (h : c ≤ 16) where
   less : 100 + 17 * p + c - 100 ≡ 17 * p + c
@@ -149,11 +140,11 @@ pub refusal_said : (c : ℕ) → 1 ≤ c → c < 100 → said_by c ≡ refused c
 unfolding said_by
 refusal_said c l h = rw (ne_eqb c 0 (omega arith), lt-ltb c 100 (omega arith))
 
-pub said_back : (o : Outcome) → FewOf o → said_by (code o) ≡ said o
+pub said_back : (o : Result Verdict Refusal) → FewOf o → said_by (code o) ≡ said o
 unfolding said said_by FewOf
-said_back Holds h = refl
-said_back (Missed p b) h = let (same, small) = blocker_back b h in miss_said p (blocker_code b) small ∙ ap (missed p) same
-said_back (not_analysed r) h = let (l, m) = refusal_range r in refusal_said (number_of r) l (omega arith)
+said_back (Ok Holds) h = refl
+said_back (Ok (Missed p b)) h = let (same, small) = blocker_back b h in miss_said p (blocker_code b) small ∙ ap (missed p) same
+said_back (Err r) h = let (l, m) = refusal_range r in refusal_said (number_of r) l (omega arith)
 
 -- ---- every other entry
 
@@ -200,26 +191,49 @@ module _ (m : ℕ) where
   with_none : eqb (256 * m % 256) 0 ≡ true
   with_none = eq-eqb (256 * m % 256) 0 (omega arith)
 
-  detail : 256 * m / 256 ≡ m
-  detail = omega arith
+  above_none : 256 * m / 256 ≡ m
+  above_none = omega arith
 
-pub written_back : (w : Written) → ((why : Refusal) → w ≡ not_written why → NamesSmall why) → written_by (written_number w) ≡ w
+-- an answer comes back from its number where its detail does, or its refusal
+module _ {T E : Type 0} (told : ℕ → T) (why : ℕ → E) (detail : T → ℕ) (refused : E → ℕ) where
+  told_back : (x : T) → told (detail x) ≡ x → answer_by told why (answer_number detail refused (Ok x)) ≡ Ok x
+  unfolding answer_by
+  told_back x e = rw (with_none (detail x), above_none (detail x)) (ap Ok e)
+
+  turned_back : (r : E) → eqb (refused r % 256) 0 ≡ false → why (refused r) ≡ r → answer_by told why (answer_number detail refused (Err r)) ≡ Err r
+  unfolding answer_by
+  turned_back r f e = rw f (ap Err e)
+
+-- one of a refusal whose task and reason have room
+module _ {T : Type 0} (told : ℕ → T) (detail : T → ℕ) where
+  answer_back : (x : Result T Refusal) → ((t : T) → x ≡ Ok t → told (detail t) ≡ t) → ((why : Refusal) → x ≡ Err why → NamesSmall why)
+      → answer_by told refused_by (answer_number detail refused_number x) ≡ x
+  answer_back (Ok t) h names = told_back told refused_by detail refused_number t (h t refl)
+  answer_back (Err r) h names = turned_back told refused_by detail refused_number r (with_refusal r) (refused_back r (names r refl))
+
+pub written_back : (w : Result ℕ Refusal) → ((why : Refusal) → w ≡ Err why → NamesSmall why) → written_by (written_number w) ≡ w
 unfolding written_by
-written_back (Bytes n) h = rw (with_none n, detail n)
-written_back (not_written r) h = rw (with_refusal r) (ap not_written (refused_back r (h r refl)))
+written_back w names = answer_back (λ n. n) written_detail w (λ n e. refl) names
 
-pub read_back : (x : ListRead)
-    → ((version policy count : ℕ) → x ≡ Set version policy count → (version < 256) × (policy < 256) × (count < 256)) → ((why : Refusal) → x ≡ not_read why → NamesSmall why)
+-- what was read has room in eight bits each
+pub record ReadInBits (x : ListRead) : Type 0 where
+  pub version : x.version < 256
+  pub policy : x.policy < 256
+  pub task_count : x.task_count < 256
+
+listed_back : (x : ListRead) → ReadInBits x → listed_by (read_detail x) ≡ x
+unfolding listed_by
+listed_back x h =
+    let rest = x.policy + 256 * x.version in
+    let next : read_detail x / 256 % 256 ≡ x.policy = ap (λ (n : ℕ). n % 256) (high_part x.task_count rest h.task_count) ∙ low_part x.policy x.version h.policy in
+    let above : read_detail x / 65536 ≡ x.version = let v = h.version in let p = h.policy in let c = h.task_count in omega arith in
+    let high : read_detail x / 65536 % 256 ≡ x.version = ap (λ (n : ℕ). n % 256) above ∙ mod-eq_of_lt h.version in
+    rw (low_part x.task_count rest h.task_count, next, high)
+
+pub read_back : (x : Result ListRead Refusal) → ((r : ListRead) → x ≡ Ok r → ReadInBits r) → ((why : Refusal) → x ≡ Err why → NamesSmall why)
     → list_read_by (read_number x) ≡ x
 unfolding list_read_by
-read_back (Set version policy count) h names =
-    let (form, known, few) = h version policy count refl in
-    let rest = policy + 256 * version in
-    let next : (count + 256 * rest) / 256 % 256 ≡ policy = ap (λ (x : ℕ). x % 256) (high_part count rest few) ∙ low_part policy version known in
-    let above : (count + 256 * rest) / 65536 ≡ version = omega arith in
-    let high : (count + 256 * rest) / 65536 % 256 ≡ version = ap (λ (x : ℕ). x % 256) above ∙ mod-eq_of_lt form in
-    rw (with_none (count + 256 * rest), detail (count + 256 * rest), low_part count rest few, next, high)
-read_back (not_read r) h names = rw (with_refusal r) (ap not_read (refused_back r (names r refl)))
+read_back x small names = answer_back listed_by read_detail x (λ r e. listed_back r (small r e)) names
 
 miss_back : (p c : ℕ) → c ≤ 16 → verdict_by (1 + 17 * p + c) ≡ Missed p (blocker_by c)
 unfolding verdict_by
@@ -227,30 +241,32 @@ miss_back p c h =
     let less_one : 1 + 17 * p + c - 1 ≡ 17 * p + c = omega arith in
     rw (ne_eqb (1 + 17 * p + c) 0 (omega arith), less_one, quotient p c h, rest p c h)
 
--- an outcome in sixteen bits below a count in eight
-analysed_back : (m n : ℕ) → m < 65536 → n < 256 → analysed_by (m + 65536 * n) ≡ record { outcome = verdict_by m; task_count = n }
+-- a verdict in sixteen bits below a count in eight
+analysed_back : (m n : ℕ) → m < 65536 → n < 256 → analysed_by (m + 65536 * n) ≡ record { verdict = verdict_by m; task_count = n }
 unfolding analysed_by
 analysed_back m n h l =
     let low : (m + 65536 * n) % 65536 ≡ m = omega arith in
     let above : (m + 65536 * n) / 65536 ≡ n = omega arith in
     let high : (m + 65536 * n) / 65536 % 256 ≡ n = ap (λ (x : ℕ). x % 256) above ∙ mod-eq_of_lt l in
-    ap₂ (λ (x y : ℕ). record { outcome = verdict_by x; task_count = y }) low high
+    ap₂ (λ (x y : ℕ). record { verdict = verdict_by x; task_count = y }) low high
 
 -- a decision whose parts have room in their bits
-unfoldable pub InBits : Outcome → ℕ → Type 0
+unfoldable pub InBits : Verdict → ℕ → Type 0
 InBits Holds n = n < 256
 InBits (Missed p b) n = (p < most_tasks) × Few b × (n < 256)
-InBits (not_analysed why) n = (n ≡ 0) × NamesSmall why
 
-pub decision_back : (o : Outcome) (n : ℕ) → InBits o n → decision_by (outcome_number o n) ≡ record { outcome = o; task_count = n }
-unfolding decision_by InBits verdict_by
-decision_back Holds n l = rw (with_none (65536 * n), detail (65536 * n)) (ap analysed_by (sym (zero-add (65536 * n))) ∙ analysed_back 0 n (lit< tt) l)
-decision_back (Missed p b) n (h, few, l) =
+decided_back : (v : Verdict) (n : ℕ) → InBits v n → analysed_by (decision_detail (record { verdict = v; task_count = n })) ≡ record { verdict = v; task_count = n }
+unfolding InBits verdict_by
+decided_back Holds n l = analysed_back 0 n (lit< tt) l
+decided_back (Missed p b) n (h, few, l) =
     let (same, small) = blocker_back b few in
     let m : ℕ = 1 + 17 * p + blocker_code b in
-    rw (with_none (m + 65536 * n), detail (m + 65536 * n))
-    (analysed_back m n (omega arith) l ∙ ap (λ (o : Outcome). record { outcome = o; task_count = n }) (miss_back p (blocker_code b) small ∙ ap (Missed p) same))
-decision_back (not_analysed r) n (e, h) = rw (with_refusal r) (ap₂ (λ (q : Refusal) (k : ℕ). record { outcome = not_analysed q; task_count = k }) (refused_back r h) (sym e))
+    analysed_back m n (omega arith) l ∙ ap (λ (v : Verdict). record { verdict = v; task_count = n }) (miss_back p (blocker_code b) small ∙ ap (Missed p) same)
+
+pub decision_back : (x : Result Decision Refusal) → ((d : Decision) → x ≡ Ok d → InBits d.verdict d.task_count) → ((why : Refusal) → x ≡ Err why → NamesSmall why)
+    → decision_by (decision_number x) ≡ x
+unfolding decision_by
+decision_back x small names = answer_back analysed_by decision_detail x (λ d e. decided_back d.verdict d.task_count (small d e)) names
 
 -- ---- a play and its trace
 
@@ -268,37 +284,43 @@ own_back r few h =
     rw (ne_eqb (refused_number r % 256) 13 (omega arith), ne_eqb (refused_number r % 256) 14 (omega arith)) (ap Base (refused_back r h))
 
 module _ (sheet script : List ℕ) where
-  own_small : (why : Refusal) → (first_refusal (sheet_checks sheet) ≡ some why) ⊎ (why ≡ Room) → NamesSmall why
+  own_small : (why : Refusal) → (first_refusal (sheet_checks sheet) ≡ Some why) ⊎ (why ≡ Room) → NamesSmall why
   own_small why (inl e) = names_more (lit≤ tt) (each_first (NamesBelow 32) (sheet_checks sheet) (sheet_names sheet) why e)
   own_small why (inr e) = rw e (names_more (lit≤ tt) room_names)
 
-  own_twelve : (why : Refusal) → (first_refusal (sheet_checks sheet) ≡ some why) ⊎ (why ≡ Room) → Twelve why
+  own_twelve : (why : Refusal) → (first_refusal (sheet_checks sheet) ≡ Some why) ⊎ (why ≡ Room) → Twelve why
   own_twelve why (inl e) = each_first Twelve (sheet_checks sheet) (sheet_twelve sheet) why e
   own_twelve why (inr e) = rw e (lit≤ tt)
 
-  why_back : (r : PlayRefusal) → RefusalWithin sheet script r → played_by (play_refused_number r) ≡ not_played r
-  unfolding played_by play_refused_by
-  why_back _ (own_within why e) = rw (with_refusal why) (ap not_played (own_back why (own_twelve why e) (own_small why e)))
-  why_back _ script_within = refl
-  why_back _ (item_within j h) =
+  play_back : (r : PlayRefusal) → RefusalWithin sheet script r → (eqb (play_refused_number r % 256) 0 ≡ false) × (play_refused_by (play_refused_number r) ≡ r)
+  unfolding play_refused_by
+  play_back _ (own_within why e) = (with_refusal why, own_back why (own_twelve why e) (own_small why e))
+  play_back _ script_within = (refl, refl)
+  play_back _ (item_within j h) =
       let number : (14 + 256 * j) % 256 ≡ 14 = omega arith in
       let which : (14 + 256 * j) / 256 ≡ j = omega arith in
-      rw (number, which)
+      (rw number, rw (number, which))
 
   -- each answer of a play or a trace comes back from its number
-  pub played_back : (p : Played) → Within sheet script p → played_by (played_number p) ≡ p
+  pub played_back : (p : Result Played PlayRefusal) → Within sheet script p → played_by (played_number p) ≡ p
   unfolding played_by ended_by
   played_back _ (missed_within t i h l) =
-      rw (with_none (t + 4294967296 * i), detail (t + 4294967296 * i), tick_part t i (omega arith) (omega arith), task_part t i (omega arith) (omega arith), ne_eqb i 16 (omega arith))
+      told_back ended_by play_refused_by played_detail play_refused_number (first_missed t i)
+      (rw (tick_part t i (omega arith) (omega arith), task_part t i (omega arith) (omega arith), ne_eqb i 16 (omega arith)))
   played_back _ (done_within t h) =
-      rw (with_none (t + 4294967296 * 16), detail (t + 4294967296 * 16), tick_part t 16 (omega arith) (omega arith), task_part t 16 (omega arith) (omega arith))
-  played_back _ (turned_within r h) = why_back r h
+      told_back ended_by play_refused_by played_detail play_refused_number (Done t)
+      (rw (tick_part t 16 (omega arith) (omega arith), task_part t 16 (omega arith) (omega arith)))
+  played_back _ (turned_within r h) =
+      let back = play_back r h in turned_back ended_by play_refused_by played_detail play_refused_number r back.0 back.1
 
 -- ---- a worst run
 
+script_back : (x : Option ℕ) → ((n : ℕ) → x ≡ Some n → 1 ≤ n) → script_by (worst_detail x) ≡ x
+unfolding script_by
+script_back None has = refl
+script_back (Some n) has = let h = has n refl in rw (ne_eqb n 0 (omega arith))
+
 -- each answer comes back from its number, since what is written has a byte
-pub worst_back : (w : Worst) → ((n : ℕ) → w ≡ script_written n → 1 ≤ n) → ((why : Refusal) → w ≡ no_script why → NamesSmall why) → worst_by (worst_number w) ≡ w
-unfolding worst_by script_by
-worst_back set_holds has names = refl
-worst_back (script_written n) has names = let h = has n refl in rw (with_none n, detail n, ne_eqb n 0 (omega arith))
-worst_back (no_script r) has names = rw (with_refusal r) (ap no_script (refused_back r (names r refl)))
+pub worst_back : (w : Result (Option ℕ) Refusal) → ((n : ℕ) → w ≡ Ok (Some n) → 1 ≤ n) → ((why : Refusal) → w ≡ Err why → NamesSmall why) → worst_by (worst_number w) ≡ w
+unfolding worst_by
+worst_back w has names = answer_back script_by worst_detail w (λ x e. script_back x (λ n f. has n (e ∙ ap Ok f))) names

@@ -1,7 +1,8 @@
 -- What is signed for a play and for a trace is so of what they answer and leave by their definitions.
+use Rattle.std.specs.Prelude.{None, Option, Some, Ok, Err}
 use mathlib.Core.List.{List}
 use mathlib.Core.Logic.{◌↔◌}
-use mathlib.Core.Option.{Option, none, some, none-ne-some}
+use Rattle.theory.proofs.Options.{none_ne_some}
 use mathlib.Core.Path.{◌≡◌, refl, sym, ap, ◌∙◌}
 use Prim.Native.Nat.{ℕ, ◌≤◌, ◌<◌}
 use native.Mathlib.Nat.{zero-add}
@@ -17,7 +18,6 @@ use Rattle.plays.proofs.TickSays.{shown_says}
 use Rattle.player.specs.Answers.{order_in, script_for, play_checks, ended, stops_at, play_end, played, traced, trace_left}
 use Rattle.player.specs.declared.PlayRefusal.{PlayRefusal}
 use Rattle.player.specs.declared.PlayRefusal.TheVariants.{Base}
-use Rattle.player.specs.declared.Played.TheVariants.{TurnedAway}
 use Rattle.player.proofs.Playing.{shown_length, shown_at}
 use Rattle.player.proofs.Ways.{played_turned, played_ends, Traced, not_played, no_room, is_traced, trace_way}
 use Rattle.player.proofs.Exactly.{one_refusal, turned_exactly, own_exactly, form_exactly, item_exactly, run_of_set, run_of_script, missed_exactly, done_exactly}
@@ -47,33 +47,33 @@ module _ (sheet script : List ℕ) where
   -- ---- a trace
 
   -- the ticks of a play that is not turned away
-  ticks_played : first_refusal (play_checks sheet script) ≡ none → ticks_said (played sheet script) ≡ stops_at sheet script
+  ticks_played : first_refusal (play_checks sheet script) ≡ None → ticks_said (played sheet script) ≡ stops_at sheet script
   unfolding play_end ended ticks_said
   ticks_played e = ap ticks_said (sym (played_ends sheet script e)) ∙ go (misser (order_in sheet) (tasks_of sheet) (script_for sheet script) (stops_at sheet script))
     where
-      go : (o : Option ℕ) → ticks_said (ended (stops_at sheet script) o) ≡ stops_at sheet script
-      go none = refl
-      go (some i) = refl
+      go : (o : Option ℕ) → ticks_said (Ok (ended (stops_at sheet script) o)) ≡ stops_at sheet script
+      go None = refl
+      go (Some i) = refl
 
   -- one that is turned away has none
-  ticks_turned : {r : PlayRefusal} → first_refusal (play_checks sheet script) ≡ some r → ticks_said (played sheet script) ≡ 0
+  ticks_turned : {r : PlayRefusal} → first_refusal (play_checks sheet script) ≡ Some r → ticks_said (played sheet script) ≡ 0
   unfolding ticks_said
   ticks_turned e = ap ticks_said (sym (played_turned sheet script e))
 
   module _ (before : List ℕ) where
     -- 12 for want of room, and only so
-    room_exactly : (traced sheet script before ≡ TurnedAway (Base Room)) ↔ (length before < ticks_said (played sheet script))
+    room_exactly : (traced sheet script before ≡ Err (Base Room)) ↔ (length before < ticks_said (played sheet script))
     room_exactly = (λ e. there (trace_way sheet script before) e, λ h. back (trace_way sheet script before) h)
       where
-        there : Traced sheet script before → traced sheet script before ≡ TurnedAway (Base Room) → length before < ticks_said (played sheet script)
+        there : Traced sheet script before → traced sheet script before ≡ Err (Base Room) → length before < ticks_said (played sheet script)
         there (not_played r f a _) e =
             let same : r ≡ Base Room = one_refusal (sym a ∙ e) in
-            absurd (not_for_room sheet ((own_exactly sheet script Room).0 ((turned_exactly sheet script (Base Room)).1 (f ∙ ap some same))))
+            absurd (not_for_room sheet ((own_exactly sheet script Room).0 ((turned_exactly sheet script (Base Room)).1 (f ∙ ap Some same))))
         there (no_room f h a _) e = rw (ticks_played f) h
         there (is_traced f h a _) e =
-            absurd (none-ne-some (Base Room) (sym f ∙ (turned_exactly sheet script (Base Room)).0 (sym (played_ends sheet script f) ∙ sym a ∙ e)))
+            absurd (none_ne_some (Base Room) (sym f ∙ (turned_exactly sheet script (Base Room)).0 (sym (played_ends sheet script f) ∙ sym a ∙ e)))
 
-        back : Traced sheet script before → length before < ticks_said (played sheet script) → traced sheet script before ≡ TurnedAway (Base Room)
+        back : Traced sheet script before → length before < ticks_said (played sheet script) → traced sheet script before ≡ Err (Base Room)
         back (not_played r f a _) h = let z : ⊥ = omega (arith, ticks_turned f) in absurd z
         back (no_room f l a _) h = a
         back (is_traced f l a _) h = let z : ⊥ = omega (arith, ticks_played f) in absurd z
@@ -88,7 +88,7 @@ module _ (sheet script : List ℕ) where
         go (is_traced f l a _) = a ∙ played_ends sheet script f
 
     -- a refused call: the bytes are as they were
-    refused_so : {r : PlayRefusal} → traced sheet script before ≡ TurnedAway r → trace_left sheet script before ≡ before
+    refused_so : {r : PlayRefusal} → traced sheet script before ≡ Err r → trace_left sheet script before ≡ before
         → TraceSigned sheet script before (traced sheet script before) (trace_left sheet script before)
     unfolding ticks_said
     refused_so a l =
@@ -102,7 +102,7 @@ module _ (sheet script : List ℕ) where
         }
 
     -- a call that is done: a byte of each tick stands first
-    done_so : first_refusal (play_checks sheet script) ≡ none → stops_at sheet script ≤ length before → traced sheet script before ≡ play_end sheet script
+    done_so : first_refusal (play_checks sheet script) ≡ None → stops_at sheet script ≤ length before → traced sheet script before ≡ Ok (play_end sheet script)
         → trace_left sheet script before ≡ laid (shown_from (order_in sheet) (tasks_of sheet) (script_for sheet script) 0 (stops_at sheet script)) before
         → TraceSigned sheet script before (traced sheet script before) (trace_left sheet script before)
     unfolding laid
@@ -110,7 +110,7 @@ module _ (sheet script : List ℕ) where
         record {
           no_room = room_exactly;
           as_play = λ h. (answers_as_play h, rw (answers_as_play h) played_signed);
-          unchanged = λ why e. absurd (none-ne-some why (sym f ∙ (turned_exactly sheet script why).0 (sym as_played ∙ e)));
+          unchanged = λ why e. absurd (none_ne_some why (sym f ∙ (turned_exactly sheet script why).0 (sym as_played ∙ e)));
           shows = λ u h.
               let byte : get_or (trace_left sheet script before) u 0 ≡ shown (order_in sheet) (tasks_of sheet) (script_for sheet script) u =
               ap (λ m. get_or m u 0) l

@@ -1,12 +1,12 @@
 -- What we sign for a play and its trace, at the entries: every theorem is about any call that keeps its contract (specs/Calls.antt).
 -- What is claimed stands in specs/Plays.antt and specs/Numbers.antt.
+use Rattle.std.specs.Prelude.{Result, Err, IsOk}
 use mathlib.Core.Bool.{true}
 use mathlib.Core.List.{List}
 use mathlib.Core.Path.{◌≡◌, sym, ap, ◌∙◌}
 use Prim.Native.Nat.{ℕ}
 use lib.ListN.{length}
 use Rattle.sheet.specs.Reading.{tasks_of, reading}
-use Rattle.sheet.specs.declared.Answer.TheVariants.{Admitted}
 use Rattle.sheet.specs.declared.Refusal.TheVariants.{CheckWord}
 use Rattle.scripts.specs.Reading.{well_made}
 use Rattle.scripts.proofs.Changes.{damaged_script}
@@ -14,7 +14,6 @@ use Rattle.player.specs.Answers.{played}
 use Rattle.player.specs.declared.PlayRefusal.{PlayRefusal}
 use Rattle.player.specs.declared.PlayRefusal.TheVariants.{Base, Malformed}
 use Rattle.player.specs.declared.Played.{Played}
-use Rattle.player.specs.declared.Played.TheVariants.{TurnedAway}
 use Rattle.player.proofs.Within.{played_within, traced_within}
 use Rattle.player.proofs.Ways.{trace_turned}
 use Rattle.player.proofs.Exactly.{own_exactly}
@@ -25,16 +24,17 @@ use Rattle.signed.specs.Numbers.{played_by}
 use Rattle.signed.specs.Plays.{PlaySigned, TraceSigned}
 use Rattle.signed.proofs.Numbers.{played_back}
 use Rattle.signed.proofs.Damage.{damaged_is_2}
+use Rattle.signed.proofs.Signed.{one_call}
 use Rattle.signed.proofs.Played.{played_signed, traced_signed}
 
 -- ---- What the answer says is so of the sheet, the script and its run
 
 -- `play`
-pub play_signed : (sheet script : List ℕ) (answer : Played) → Play sheet script answer → PlaySigned sheet script answer
+pub play_signed : (sheet script : List ℕ) (answer : Result Played PlayRefusal) → Play sheet script answer → PlaySigned sheet script answer
 play_signed sheet script answer c = rw c.answers (played_signed sheet script)
 
 -- `trace`
-pub trace_signed : (sheet script before after : List ℕ) (answer : Played) → Trace sheet script before answer after → TraceSigned sheet script before answer after
+pub trace_signed : (sheet script before after : List ℕ) (answer : Result Played PlayRefusal) → Trace sheet script before answer after → TraceSigned sheet script before answer after
 trace_signed sheet script before after answer c = rw (c.answers, c.leaves) (traced_signed sheet script before)
 
 -- The entries for C are those for Rattle, with the answer that the number says: tick and task, or the refusal with its item.
@@ -56,26 +56,26 @@ trace_c_signed sheet script before after number c = trace_signed sheet script be
 
 -- ---- For the same input a second conforming call answers and leaves the same
 
-pub one_play : (sheet script : List ℕ) (a b : Played) → Play sheet script a → Play sheet script b → a ≡ b
+pub one_play : (sheet script : List ℕ) (a b : Result Played PlayRefusal) → Play sheet script a → Play sheet script b → a ≡ b
 one_play sheet script a b c d = c.answers ∙ sym d.answers
 
-pub one_trace : (sheet script before x y : List ℕ) (a b : Played) → Trace sheet script before a x → Trace sheet script before b y → (a ≡ b) × (x ≡ y)
-one_trace sheet script before x y a b c d = (c.answers ∙ sym d.answers, c.leaves ∙ sym d.leaves)
+pub one_trace : (sheet script before x y : List ℕ) (a b : Result Played PlayRefusal) → Trace sheet script before a x → Trace sheet script before b y → (a ≡ b) × (x ≡ y)
+one_trace sheet script before x y a b c d = one_call c d
 
 pub one_play_c : (sheet script : List ℕ) (a b : ℕ) → PlayC sheet script a → PlayC sheet script b → a ≡ b
 one_play_c sheet script a b c d = c.answers ∙ sym d.answers
 
 pub one_trace_c : (sheet script before x y : List ℕ) (a b : ℕ) → TraceC sheet script before a x → TraceC sheet script before b y → (a ≡ b) × (x ≡ y)
-one_trace_c sheet script before x y a b c d = (c.answers ∙ sym d.answers, c.leaves ∙ sym d.leaves)
+one_trace_c sheet script before x y a b c d = one_call c d
 
 -- ---- Damage: a script, or the sheet, changed within sixteen neighbouring bits is turned away, and nothing else changes
 
 -- a play that is turned away: what each entry answers, and that a trace changes nothing
-module _ (sheet script : List ℕ) (why : PlayRefusal) (turned : played sheet script ≡ TurnedAway why) where
-  play_turned : (answer : Played) → Play sheet script answer → answer ≡ TurnedAway why
+module _ (sheet script : List ℕ) (why : PlayRefusal) (turned : played sheet script ≡ Err why) where
+  play_turned : (answer : Result Played PlayRefusal) → Play sheet script answer → answer ≡ Err why
   play_turned answer c = c.answers ∙ turned
 
-  trace_turned_so : (before after : List ℕ) (answer : Played) → Trace sheet script before answer after → (answer ≡ TurnedAway why) × (after ≡ before)
+  trace_turned_so : (before after : List ℕ) (answer : Result Played PlayRefusal) → Trace sheet script before answer after → (answer ≡ Err why) × (after ≡ before)
   trace_turned_so before after answer c =
       let (said, left) = trace_turned sheet script before (((played_signed sheet script).turned why).0 turned) in
       (c.answers ∙ sym said, c.leaves ∙ sym left)
@@ -89,9 +89,9 @@ module _ (sheet script : List ℕ) (why : PlayRefusal) (turned : played sheet sc
       (c.answers ∙ ap played_number (sym said), c.leaves ∙ sym left)
 
 -- A script that is well made for an admitted sheet, changed so, gets 13.
-module _ (sheet script changed : List ℕ) (admitted : (reading sheet).answer ≡ Admitted) (made : well_made (length (tasks_of sheet)) script ≡ true)
+module _ (sheet script changed : List ℕ) (admitted : IsOk (reading sheet)) (made : well_made (length (tasks_of sheet)) script ≡ true)
     (damaged : Damaged script changed) where
-  script_damaged : played sheet changed ≡ TurnedAway Malformed
+  script_damaged : played sheet changed ≡ Err Malformed
   script_damaged =
       (played_signed sheet changed).ill_made.1 (
         admitted,
@@ -99,10 +99,10 @@ module _ (sheet script changed : List ℕ) (admitted : (reading sheet).answer �
             damaged.elsewhere_same damaged.changed,
       )
 
-  pub play_script_damaged : (answer : Played) → Play sheet changed answer → answer ≡ TurnedAway Malformed
+  pub play_script_damaged : (answer : Result Played PlayRefusal) → Play sheet changed answer → answer ≡ Err Malformed
   play_script_damaged = play_turned sheet changed Malformed script_damaged
 
-  pub trace_script_damaged : (before after : List ℕ) (answer : Played) → Trace sheet changed before answer after → (answer ≡ TurnedAway Malformed) × (after ≡ before)
+  pub trace_script_damaged : (before after : List ℕ) (answer : Result Played PlayRefusal) → Trace sheet changed before answer after → (answer ≡ Err Malformed) × (after ≡ before)
   trace_script_damaged = trace_turned_so sheet changed Malformed script_damaged
 
   pub play_c_script_damaged : (number : ℕ) → PlayC sheet changed number → number ≡ 13
@@ -112,15 +112,15 @@ module _ (sheet script changed : List ℕ) (admitted : (reading sheet).answer �
   trace_c_script_damaged = trace_c_turned sheet changed Malformed script_damaged
 
 -- An admitted sheet, changed so, gets 2, whatever the script.
-module _ (sheet changed script : List ℕ) (admitted : (reading sheet).answer ≡ Admitted) (damaged : Damaged sheet changed) where
-  sheet_damaged : played changed script ≡ TurnedAway (Base CheckWord)
+module _ (sheet changed script : List ℕ) (admitted : IsOk (reading sheet)) (damaged : Damaged sheet changed) where
+  sheet_damaged : played changed script ≡ Err (Base CheckWord)
   sheet_damaged = (own_exactly changed script CheckWord).1 (damaged_is_2 sheet changed admitted damaged)
 
-  pub play_damaged : (answer : Played) → Play changed script answer → answer ≡ TurnedAway (Base CheckWord)
+  pub play_damaged : (answer : Result Played PlayRefusal) → Play changed script answer → answer ≡ Err (Base CheckWord)
   play_damaged = play_turned changed script (Base CheckWord) sheet_damaged
 
-  pub trace_damaged : (before after : List ℕ) (answer : Played) → Trace changed script before answer after
-      → (answer ≡ TurnedAway (Base CheckWord)) × (after ≡ before)
+  pub trace_damaged : (before after : List ℕ) (answer : Result Played PlayRefusal) → Trace changed script before answer after
+      → (answer ≡ Err (Base CheckWord)) × (after ≡ before)
   trace_damaged = trace_turned_so changed script (Base CheckWord) sheet_damaged
 
   pub play_c_damaged : (number : ℕ) → PlayC changed script number → number ≡ 2

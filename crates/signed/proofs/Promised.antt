@@ -1,4 +1,5 @@
 -- What an entry that analyses has answered and left keeps what we sign for.
+use Rattle.std.specs.Prelude.{None, Some, Result, Ok, Err}
 use mathlib.Core.List.{List}
 use mathlib.Core.Logic.{◌⊎◌, inl, inr}
 use mathlib.Core.Path.{◌≡◌, refl, subst}
@@ -15,18 +16,16 @@ use Rattle.sheet.specs.declared.Refusal.{Refusal}
 use Rattle.sheet.proofs.Turns.{time_at}
 use Rattle.sheet.proofs.Analysable.{each_at}
 use Rattle.sheet.proofs.Carried.{carried_fit}
-use Rattle.order.specs.declared.Blocker.TheVariants.{At, Nobody}
 use Rattle.analysis.specs.Times.{outcome_of, times_of}
-use Rattle.analysis.specs.Answers.{code, refused_decision}
-use Rattle.analysis.specs.declared.Outcome.{Outcome}
-use Rattle.analysis.specs.declared.Outcome.TheVariants.{Holds, Missed, Refused}
+use Rattle.analysis.specs.Answers.{code, decision}
+use Rattle.analysis.specs.declared.Verdict.{Verdict}
+use Rattle.analysis.specs.declared.Verdict.TheVariants.{Holds, Missed}
 use Rattle.analysis.specs.declared.Decision.{Decision}
 use Rattle.analysis.proofs.Entries.{few, times_long}
-use Rattle.analysis.proofs.Promises.{outcome_not_refused}
-use Rattle.signed.specs.Claims.{said, count_said, Kept, time_in, Timed, Untimed, Signed}
+use Rattle.signed.specs.Claims.{said, outcome_told, count_told, count_said, Kept, time_in, Timed, Untimed, Signed}
 use Rattle.signed.specs.Numbers.{IsNumber, it_holds, it_refuses, task_misses, task_misses_alone}
 use Rattle.signed.proofs.Times.{each, signed}
-use Rattle.signed.proofs.Numbers.{refusal_range, NamesSmall, FewOf, InBits}
+use Rattle.signed.proofs.Numbers.{refusal_range, FewOf, InBits}
 use Rattle.signed.proofs.Memory.{stored, time_laid, surplus_kept}
 use Rattle.signed.proofs.Entries.{Sound, Analysed, is_refused, is_analysed}
 
@@ -65,7 +64,7 @@ module _ (policy : ℕ) (tasks : List Task) (sound : Sound policy tasks) where
 
   -- the times that stand in memory
   pub laid_signed : (kept : Kept) (before : List ℕ) → length (stored kept (times_of policy tasks)) ≤ length before
-      → Signed policy tasks kept before (laid (stored kept (times_of policy tasks)) before) (said (outcome_of policy tasks))
+      → Signed policy tasks kept before (laid (stored kept (times_of policy tasks)) before) (said (Ok (outcome_of policy tasks)))
   laid_signed kept before fits =
       signed policy tasks sound.admitted eight
       (time_in kept (laid (stored kept (times_of policy tasks)) before))
@@ -74,69 +73,65 @@ module _ (policy : ℕ) (tasks : List Task) (sound : Sound policy tasks) where
       (surplus_kept kept (times_of policy tasks) before (length tasks) long fits)
 
 -- a blocker that is named is one of at most sixteen tasks
-few_said : (policy : ℕ) (tasks : List Task) (kept : Kept) (before after : List ℕ) (outcome : Outcome)
-    → length tasks ≤ most_tasks → Signed policy tasks kept before after (said outcome) → FewOf outcome
+few_said : (policy : ℕ) (tasks : List Task) (kept : Kept) (before after : List ℕ) (v : Verdict)
+    → length tasks ≤ most_tasks → Signed policy tasks kept before after (said (Ok v)) → FewOf (Ok v)
 unfolding Signed said FewOf
 few_said policy tasks kept before after Holds h s = tt
 few_said policy tasks kept before after (Missed p b) h s = λ q e. omega (arith, s.0.blocker_in_set q e)
-few_said policy tasks kept before after (Refused why) h s = tt
 
 module _ {policy : ℕ} {tasks : List Task} {kept : Kept} {before : List ℕ} where
-  pub promised : {decided : Decision} {after : List ℕ} → Analysed policy tasks kept before decided after → Signed policy tasks kept before after (said decided.outcome)
-  unfolding Signed said
+  pub promised : {answer : Result Decision Refusal} {after : List ℕ} → Analysed policy tasks kept before answer after → Signed policy tasks kept before after (said (outcome_told answer))
+  unfolding Signed said outcome_told
   promised (is_refused why few) = ((refusal_range why).0, few, refl)
   promised (is_analysed sound fits) = laid_signed policy tasks sound kept before fits
 
-  pub few_of : {decided : Decision} {after : List ℕ} → Analysed policy tasks kept before decided after → FewOf decided.outcome
-  unfolding FewOf
+  pub few_of : {answer : Result Decision Refusal} {after : List ℕ} → Analysed policy tasks kept before answer after → FewOf (outcome_told answer)
+  unfolding FewOf outcome_told
   few_of (is_refused why few) = tt
   few_of (is_analysed sound fits) =
       few_said policy tasks kept before _ (outcome_of policy tasks) sound.carried.few_tasks (laid_signed policy tasks sound kept before fits)
 
   -- the parts of a decision have room in their bits
-  pub in_bits : {decided : Decision} {after : List ℕ} → Analysed policy tasks kept before decided after
-      → ((why : Refusal) → decided ≡ refused_decision why → NamesSmall why) → InBits decided.outcome decided.task_count
-  in_bits (is_refused why few) names = unfold InBits in (refl, names why refl)
-  in_bits (is_analysed sound fits) names = go (outcome_of policy tasks) refl (laid_signed policy tasks sound kept before fits)
+  pub in_bits : {answer : Result Decision Refusal} {after : List ℕ} → Analysed policy tasks kept before answer after → (d : Decision) → answer ≡ Ok d → InBits d.verdict d.task_count
+  in_bits (is_refused why few) d e = cc
+  in_bits (is_analysed sound fits) d e =
+      let same : decision policy tasks ≡ d = cc in
+      rw (← same) (go (outcome_of policy tasks) (laid_signed policy tasks sound kept before fits))
     where
-      go : (o : Outcome) → outcome_of policy tasks ≡ o → Signed policy tasks kept before (laid (stored kept (times_of policy tasks)) before) (said o) → InBits o (length tasks)
-      go Holds e s = unfold InBits in omega (arith, sound.carried.few_tasks)
-      go (Missed p b) e s =
+      go : (v : Verdict) → Signed policy tasks kept before (laid (stored kept (times_of policy tasks)) before) (said (Ok v)) → InBits v (length tasks)
+      go Holds s = unfold InBits in omega (arith, sound.carried.few_tasks)
+      go (Missed p b) s =
           unfold InBits Signed said in
           (omega (arith, s.0.in_set, sound.carried.few_tasks), λ q e. omega (arith, s.0.blocker_in_set q e, sound.carried.few_tasks), omega (arith, sound.carried.few_tasks))
-      go (Refused why) e s = absurd (outcome_not_refused policy tasks why e)
 
   -- the count is that of the tasks
-  pub counted : {decided : Decision} {after : List ℕ} → Analysed policy tasks kept before decided after
-      → decided.task_count ≡ count_said (length tasks) (said decided.outcome)
-  counted (is_refused why few) = unfold count_said said in refl
-  counted (is_analysed sound fits) = go (outcome_of policy tasks) refl
+  pub counted : {answer : Result Decision Refusal} {after : List ℕ} → Analysed policy tasks kept before answer after
+      → count_told answer ≡ count_said (length tasks) (said (outcome_told answer))
+  unfolding count_told count_said said outcome_told
+  counted (is_refused why few) = refl
+  counted (is_analysed sound fits) = go (outcome_of policy tasks)
     where
-      go : (o : Outcome) → outcome_of policy tasks ≡ o → length tasks ≡ count_said (length tasks) (said o)
-      go Holds e = unfold count_said said in refl
-      go (Missed p b) e = unfold count_said said in refl
-      go (Refused why) e = absurd (outcome_not_refused policy tasks why e)
+      go : (v : Verdict) → length tasks ≡ count_said (length tasks) (said (Ok v))
+      go Holds = refl
+      go (Missed p b) = refl
 
--- the number of a set's outcome is not from 1 to 12
-pub outcome_number : (policy : ℕ) (tasks : List Task) → 1 ≤ code (outcome_of policy tasks) → ¬ (code (outcome_of policy tasks) ≤ 12)
-outcome_number policy tasks l h = go (outcome_of policy tasks) refl l h
-  where
-    go : (o : Outcome) → outcome_of policy tasks ≡ o → 1 ≤ code o → ¬ (code o ≤ 12)
-    go Holds e l h = omega arith
-    go (Missed p b) e l h = omega arith
-    go (Refused why) e l h = outcome_not_refused policy tasks why e
+-- the number of a set's verdict is not from 1 to 12
+pub outcome_number : (v : Verdict) → 1 ≤ code (Ok v) → ¬ (code (Ok v) ≤ 12)
+outcome_number Holds l h = omega arith
+outcome_number (Missed p b) l h = omega arith
 
 -- the number of an outcome that is so
-pub number_given : (policy : ℕ) (tasks : List Task) (kept : Kept) (before after : List ℕ) (outcome : Outcome)
+pub number_given : (policy : ℕ) (tasks : List Task) (kept : Kept) (before after : List ℕ) (outcome : Result Verdict Refusal)
     → Signed policy tasks kept before after (said outcome) → IsNumber (length tasks) (code outcome)
 unfolding Signed said
-number_given policy tasks kept before after Holds s = it_holds
-number_given policy tasks kept before after (Missed p (At q)) s = task_misses p q s.0.in_set (s.0.blocker_in_set q refl)
-number_given policy tasks kept before after (Missed p Nobody) s = task_misses_alone p s.0.in_set
-number_given policy tasks kept before after (Refused why) s = it_refuses (number_of why) s.0 s.1
+number_given policy tasks kept before after (Ok Holds) s = it_holds
+number_given policy tasks kept before after (Ok (Missed p (Some q))) s = task_misses p q s.0.in_set (s.0.blocker_in_set q refl)
+number_given policy tasks kept before after (Ok (Missed p None)) s = task_misses_alone p s.0.in_set
+number_given policy tasks kept before after (Err why) s = it_refuses (number_of why) s.0 s.1
 
 -- a number from 1 to 12 is that of a refusal
-pub number_refused : {policy : ℕ} {tasks : List Task} {kept : Kept} {before after : List ℕ} {decided : Decision} → Analysed policy tasks kept before decided after
-    → 1 ≤ code decided.outcome → code decided.outcome ≤ 12 → after ≡ before
+pub number_refused : {policy : ℕ} {tasks : List Task} {kept : Kept} {before after : List ℕ} {answer : Result Decision Refusal} → Analysed policy tasks kept before answer after
+    → 1 ≤ code (outcome_told answer) → code (outcome_told answer) ≤ 12 → after ≡ before
+unfolding outcome_told
 number_refused (is_refused why few) l h = refl
-number_refused {policy} {tasks} (is_analysed sound fits) l h = absurd (outcome_number policy tasks l h)
+number_refused {policy} {tasks} (is_analysed sound fits) l h = absurd (outcome_number (outcome_of policy tasks) l h)

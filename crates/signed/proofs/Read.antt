@@ -1,8 +1,9 @@
 -- Admission as the reading of a sheet says it, and what stands behind the bytes that a call writes.
+use Rattle.std.specs.Prelude.{Err, None, Ok, Result, Some, IsOk, is_ok}
 use mathlib.Core.List.{List}
+use mathlib.Core.Bool.{true≢false}
 use mathlib.Core.Logic.{◌↔◌}
-use mathlib.Core.Option.{none, some}
-use mathlib.Core.Path.{◌≡◌, sym, ap, ◌∙◌}
+use mathlib.Core.Path.{◌≡◌, refl, sym, ap, ◌∙◌}
 use Prim.Native.Nat.{ℕ}
 use native.Mathlib.Omega.{arith}
 use lib.Dec.{lit≤}
@@ -11,24 +12,45 @@ use lib.Seq.{drop_at}
 use Rattle.lent.specs.Checks.{first_refusal}
 use Rattle.lent.specs.Lent.{laid}
 use Rattle.lent.proofs.Checks.{each_first}
+use Rattle.sheet.specs.Admission.{decided}
 use Rattle.sheet.specs.Reading.{sheet_checks, tasks_of, reading}
-use Rattle.sheet.specs.declared.Answer.TheVariants.{Admitted, Refused}
 use Rattle.sheet.specs.declared.Refusal.{Refusal}
 use Rattle.sheet.specs.declared.Refusal.TheVariants.{Room}
 use Rattle.sheet.proofs.Checks.{admits, refuses, none_applies, one_applies}
-use Rattle.sheet.proofs.Carried.{reading_answer}
+use Rattle.sheet.proofs.Carried.{admitted_reading, refused_reading, reading_refuses}
 use Rattle.sheet.proofs.Refused.{sheet_each}
+use Rattle.signed.specs.Claims.{refusal_to}
 use Rattle.signed.proofs.Numbers.{Up, numbered}
 
 module _ (sheet : List ℕ) where
-  pub admitted_is : (first_refusal (sheet_checks sheet) ≡ none) ↔ ((reading sheet).answer ≡ Admitted)
-  admitted_is = (λ e. reading_answer sheet ∙ admits (sheet_checks sheet) e, λ a. none_applies (sheet_checks sheet) (sym (reading_answer sheet) ∙ a))
+  -- an admitted sheet is read, and only such a sheet
+  pub reading_ok : decided (sheet_checks sheet) ≡ Ok tt → IsOk (reading sheet)
+  reading_ok a = ap is_ok (admitted_reading sheet a)
 
-  pub refused_is : (why : Refusal) → (first_refusal (sheet_checks sheet) ≡ some why) ↔ ((reading sheet).answer ≡ Refused why)
-  refused_is why = (λ e. reading_answer sheet ∙ refuses (sheet_checks sheet) why e, λ a. one_applies (sheet_checks sheet) why (sym (reading_answer sheet) ∙ a))
+  pub decided_ok : IsOk (reading sheet) → decided (sheet_checks sheet) ≡ Ok tt
+  decided_ok read = go (decided (sheet_checks sheet)) refl
+    where
+      go : (a : Result Unit Refusal) → decided (sheet_checks sheet) ≡ a → decided (sheet_checks sheet) ≡ Ok tt
+      go (Ok tt) e = e
+      go (Err why) e = absurd (true≢false (sym read ∙ ap is_ok (refused_reading sheet why e)))
+
+  pub admitted_is : (first_refusal (sheet_checks sheet) ≡ None) ↔ IsOk (reading sheet)
+  admitted_is = (λ e. reading_ok (admits (sheet_checks sheet) e), λ a. none_applies (sheet_checks sheet) (decided_ok a))
+
+  pub refused_is : (why : Refusal) → (first_refusal (sheet_checks sheet) ≡ Some why) ↔ (reading sheet ≡ Err why)
+  refused_is why = (λ e. refused_reading sheet why (refuses (sheet_checks sheet) why e), λ a. one_applies (sheet_checks sheet) why (reading_refuses sheet why a))
+
+  -- the refusal of a call is that of the sheet's checks
+  pub same_refusal : (needs has : ℕ) → refusal_to (reading sheet) needs has ≡ refusal_to (decided (sheet_checks sheet)) needs has
+  unfolding refusal_to
+  same_refusal needs has = go (decided (sheet_checks sheet)) refl
+    where
+      go : (a : Result Unit Refusal) → decided (sheet_checks sheet) ≡ a → refusal_to (reading sheet) needs has ≡ refusal_to (decided (sheet_checks sheet)) needs has
+      go (Ok tt) e = rw (admitted_reading sheet e, e)
+      go (Err why) e = rw (refused_reading sheet why e, e)
 
   -- no sheet is refused for want of room
-  pub not_for_room : ¬ (first_refusal (sheet_checks sheet) ≡ some Room)
+  pub not_for_room : ¬ (first_refusal (sheet_checks sheet) ≡ Some Room)
   not_for_room e =
       let own : Up 11 Room = each_first (Up 11) (sheet_checks sheet) (sheet_each sheet (numbered 11 (lit≤ tt) (tasks_of sheet))) Room e in
       omega (arith, own)

@@ -1,8 +1,8 @@
 -- What we sign for, at the entries: the three demands, of each public entry. Every theorem is about any call that keeps its contract
 -- (specs/Calls.antt): its answer, and its lent memory before and after. What is claimed stands in specs/Claims.antt and specs/Numbers.antt.
+use Rattle.std.specs.Prelude.{Err, None, Ok, Result, Some, IsOk}
 use mathlib.Core.List.{List, [], ◌∷◌, map}
 use mathlib.Core.Logic.{◌↔◌}
-use mathlib.Core.Option.{none, some}
 use mathlib.Core.Path.{◌≡◌, refl, sym, ap, ap₂, ◌∙◌, subst₂}
 use Prim.Native.Nat.{ℕ, ◌+◌, ◌*◌, ◌≤◌, ◌<◌}
 use native.Mathlib.Omega.{arith}
@@ -24,40 +24,32 @@ use Rattle.sheet.specs.Reading.{sheet_checks, version_of, policy_of, tasks_of, r
 use Rattle.sheet.specs.Writing.{sheet_of, writing_checks}
 use Rattle.sheet.specs.declared.Task.{Task as Record}
 use Rattle.sheet.specs.declared.TaskSet.{TaskSet}
-use Rattle.sheet.specs.declared.Written.{Written}
-use Rattle.sheet.specs.declared.Written.TheVariants.{Bytes}
-use Rattle.sheet.specs.declared.Written.TheVariants.{TurnedAway as not_written}
-use Rattle.sheet.specs.declared.Answer.TheVariants.{Admitted}
-use Rattle.sheet.specs.declared.Answer.TheVariants.{Refused as turned}
 use Rattle.sheet.specs.declared.Refusal.{Refusal}
 use Rattle.sheet.specs.declared.Refusal.TheVariants.{CheckWord, NotMonotonic}
 use Rattle.sheet.specs.declared.Reason.{Reason}
 use Rattle.sheet.proofs.Checks.{one_applies}
-use Rattle.sheet.proofs.Carried.{reading_answer}
+use Rattle.sheet.proofs.Carried.{reading_refuses}
 use Rattle.order.specs.Order.{priority_order, ordered_set}
-use Rattle.order.specs.declared.Blocker.TheVariants.{At, Nobody}
 use Rattle.order.proofs.Order.{order_permutes}
 use Rattle.order.proofs.Laws.{ordered_length}
-use Rattle.analysis.specs.Times.{number_at}
+use Rattle.analysis.specs.Times.{number_at, outcome_of}
 use Rattle.analysis.specs.Runs.{place}
-use Rattle.analysis.specs.Answers.{refused_decision}
 use Rattle.analysis.specs.declared.Decision.{Decision}
 use Rattle.analysis.proofs.Numbering.{number_in, number_back, place_back}
 use Rattle.analysis.proofs.Promises.{place_below, task_of_number}
 use Rattle.lists.specs.Faces.{list_read, list_filled, list_written, list_left}
 use Rattle.lists.specs.declared.ListRead.{ListRead}
-use Rattle.lists.specs.declared.ListRead.TheVariants.{Set}
-use Rattle.lists.specs.declared.ListRead.TheVariants.{TurnedAway as not_read}
 use Rattle.converter.specs.Converting.{converting_checks, conversion, converted}
 use Rattle.report_text.specs.Words.{refused_word, decimal, line}
 use Rattle.report_text.specs.Report.{first_line, report}
 use Rattle.report_text.specs.Text.{report_written}
-use Rattle.report_text.specs.declared.Text.{Text}
-use Rattle.signed.specs.Calls.{ReportText, WriteReport, AnalyseSet, AnalyseSheet, AnalyseList, ReadList, WriteList, Convert, CheckSheetC, AnalyseSheetC, AnalyseListC, ReadListC, WriteListC, ConvertC, ReportC}
-use Rattle.signed.specs.Claims.{said, count_said, holds, missed, refused, in_numbers, in_bytes, WorstTime, Signed, refusal_to, NoStart, Explained, Damaged}
+use Rattle.arrayvec.specs.ArrayVec.{ArrayVec}
+use Rattle.signed.specs.Calls.{Keeps, ReportText, WriteReport, AnalyseSet, AnalyseSheet, AnalyseList, ReadList, WriteList, Convert, CheckSheetC, AnalyseSheetC, AnalyseListC, ReadListC, WriteListC, ConvertC, ReportC}
+use Rattle.signed.specs.Claims.{said, outcome_told, count_told, count_said, holds, missed, refused, in_numbers, in_bytes, WorstTime, Signed, refusal_to, NoStart, Explained, Damaged}
 use Rattle.signed.specs.Numbers.{blocker_by, said_by, IsNumber, list_read_by, written_by, decision_by}
-use Rattle.signed.specs.Reports.{words_in, said_in, text_in, ReportSigned, ReportLeft}
-use Rattle.signed.proofs.Report.{text_back, not_refusing, refusing, report_promised, printed_signed, printed_text}
+use Rattle.signed.specs.Reports.{words_in, said_in, ReportSigned, ReportLeft}
+use Rattle.signed.proofs.Report.{not_refusing, refusing, report_promised, printed_signed, printed_text}
+use Rattle.signed.proofs.Read.{decided_ok}
 use Rattle.signed.proofs.Numbers.{miss_said, refusal_said, said_back, written_back, read_back, decision_back}
 use Rattle.signed.proofs.Entries as entries
 use Rattle.signed.proofs.Named.{sheet_named, list_named, read_named, write_named, convert_named, report_named}
@@ -96,8 +88,8 @@ place_stands policy tasks p h = (
 pub number_says :
     (said_by 0 ≡ holds)
     × ((c : ℕ) → 1 ≤ c → c ≤ 12 → said_by c ≡ refused c)
-    × ((p b : ℕ) → b < 16 → said_by (100 + 17 * p + b) ≡ missed p (At b))
-    × ((p : ℕ) → said_by (100 + 17 * p + 16) ≡ missed p Nobody)
+    × ((p b : ℕ) → b < 16 → said_by (100 + 17 * p + b) ≡ missed p (Some b))
+    × ((p : ℕ) → said_by (100 + 17 * p + 16) ≡ missed p None)
 unfolding said_by blocker_by
 number_says = (refl, λ c l h. refusal_said c l (omega arith), λ p b h. miss_said p b (omega arith) ∙ rw (ne_eqb b 16 (omega arith)), λ p. miss_said p 16 (lit≤ tt))
 
@@ -106,22 +98,22 @@ pub check_sheet_c_number : (sheet before after : List ℕ) (number : ℕ)
     → CheckSheetC sheet before number after
     → IsNumber (length (tasks_of sheet)) number
 check_sheet_c_number sheet before after number c =
-    let (decided, same, a) = entries.check_entry sheet before in
-    rw (c.answers ∙ same) (number_given (policy_of sheet) (tasks_of sheet) in_bytes before _ decided.outcome (promised a))
+    let (answer, same, a) = entries.check_entry sheet before in
+    rw (c.answers ∙ same) (number_given (policy_of sheet) (tasks_of sheet) in_bytes before _ (outcome_told answer) (promised a))
 
 -- Every other entry for C is one for Rattle, with the answer that its number says.
 pub analyse_sheet_c_says : (sheet before after : List ℕ) (number : ℕ)
     → AnalyseSheetC sheet before number after
     → AnalyseSheet sheet before (decision_by number) after
 analyse_sheet_c_says sheet before after number c =
-    record { answers = ap decision_by c.answers ∙ decision_back _ _ (in_bits (entries.sheet_entry sheet before) (sheet_named sheet before)); leaves = c.leaves }
+    record { answers = ap decision_by c.answers ∙ decision_back _ (in_bits (entries.sheet_entry sheet before)) (sheet_named sheet before); leaves = c.leaves }
 
 pub analyse_list_c_says : (policy : ℕ) (list : List Record) (before after : List ℕ) (number : ℕ)
     → AnalyseListC policy list before number after
     → AnalyseList policy list before (decision_by number) after
 analyse_list_c_says policy list before after number c =
     record {
-      answers = ap decision_by c.answers ∙ decision_back _ _ (in_bits (entries.list_entry policy list before) (list_named policy list before));
+      answers = ap decision_by c.answers ∙ decision_back _ (in_bits (entries.list_entry policy list before)) (list_named policy list before);
       leaves = c.leaves;
     }
 
@@ -151,132 +143,132 @@ report_c_says sheet before after number c =
 
 -- ---- Demand 1: every input is admitted or gets the one refusal that the order names; 12 comes last
 
-pub analyse_set_turned : (set : TaskSet) (before after : List ℕ) (answer : Decision) → length set.tasks ≡ most_tasks
+pub analyse_set_turned : (set : TaskSet) (before after : List ℕ) (answer : Result Decision Refusal) → length set.tasks ≡ most_tasks
     → AnalyseSet set before answer after
-    → (why : Refusal) → (answer ≡ refused_decision why) ↔ (refusal_to (admission set) (most_frames * length (map task_in (records_of set))) (length before) ≡ some why)
+    → (why : Refusal) → (answer ≡ Err why) ↔ (refusal_to (admission set) (most_frames * length (map task_in (records_of set))) (length before) ≡ Some why)
 analyse_set_turned set before after answer sixteen c why = rw c.answers (entries.set_exactly set before sixteen why)
 
-pub analyse_sheet_turned : (sheet before after : List ℕ) (answer : Decision)
+pub analyse_sheet_turned : (sheet before after : List ℕ) (answer : Result Decision Refusal)
     → AnalyseSheet sheet before answer after
-    → (why : Refusal) → (answer ≡ refused_decision why) ↔ (refusal_to (reading sheet).answer (most_frames * length (tasks_of sheet)) (length before) ≡ some why)
+    → (why : Refusal) → (answer ≡ Err why) ↔ (refusal_to (reading sheet) (most_frames * length (tasks_of sheet)) (length before) ≡ Some why)
 analyse_sheet_turned sheet before after answer c why = rw c.answers (entries.sheet_exactly sheet before why)
 
-pub analyse_list_turned : (policy : ℕ) (list : List Record) (before after : List ℕ) (answer : Decision)
+pub analyse_list_turned : (policy : ℕ) (list : List Record) (before after : List ℕ) (answer : Result Decision Refusal)
     → AnalyseList policy list before answer after
     → (why : Refusal)
-    → (answer ≡ refused_decision why) ↔ (refusal_to (decided (list_checks policy (length list) list)) (most_frames * length (map task_in list)) (length before) ≡ some why)
+    → (answer ≡ Err why) ↔ (refusal_to (decided (list_checks policy (length list) list)) (most_frames * length (map task_in list)) (length before) ≡ Some why)
 analyse_list_turned policy list before after answer c why = rw c.answers (entries.list_exactly policy list before why)
 
-pub read_list_turned : (sheet : List ℕ) (before after : List Record) (answer : ListRead)
+pub read_list_turned : (sheet : List ℕ) (before after : List Record) (answer : Result ListRead Refusal)
     → ReadList sheet before answer after
-    → (why : Refusal) → (answer ≡ not_read why) ↔ (refusal_to (reading sheet).answer (length (tasks_of sheet)) (length before) ≡ some why)
+    → (why : Refusal) → (answer ≡ Err why) ↔ (refusal_to (reading sheet) (length (tasks_of sheet)) (length before) ≡ Some why)
 read_list_turned sheet before after answer c why = rw c.answers (entries.read_exactly sheet before why)
 
-pub write_list_turned : (version policy : ℕ) (list : List Record) (before after : List ℕ) (answer : Written)
+pub write_list_turned : (version policy : ℕ) (list : List Record) (before after : List ℕ) (answer : Result ℕ Refusal)
     → WriteList version policy list before answer after
     → (why : Refusal)
-    → (answer ≡ not_written why)
-    ↔ (refusal_to (decided (writing_checks version policy (length list) list)) (length (sheet_of version policy (map task_in list))) (length before) ≡ some why)
+    → (answer ≡ Err why)
+    ↔ (refusal_to (decided (writing_checks version policy (length list) list)) (length (sheet_of version policy (map task_in list))) (length before) ≡ Some why)
 write_list_turned version policy list before after answer c why = rw c.answers (entries.write_exactly version policy list before why)
 
-pub convert_turned : (version : ℕ) (sheet before after : List ℕ) (answer : Written)
+pub convert_turned : (version : ℕ) (sheet before after : List ℕ) (answer : Result ℕ Refusal)
     → Convert version sheet before answer after
     → (why : Refusal)
-    → (answer ≡ not_written why) ↔ (refusal_to (decided (converting_checks version sheet)) (length (conversion version sheet)) (length before) ≡ some why)
+    → (answer ≡ Err why) ↔ (refusal_to (decided (converting_checks version sheet)) (length (conversion version sheet)) (length before) ≡ Some why)
 convert_turned version sheet before after answer c why = rw c.answers (entries.convert_exactly version sheet before why)
 
 -- a report is refused for want of room alone
-pub write_report_turned : (sheet before after : List ℕ) (answer : Written)
+pub write_report_turned : (sheet before after : List ℕ) (answer : Result ℕ Refusal)
     → WriteReport sheet before answer after
-    → (why : Refusal) → (answer ≡ not_written why) ↔ (refusal_to Admitted (length (report sheet)) (length before) ≡ some why)
+    → (why : Refusal) → (answer ≡ Err why) ↔ (refusal_to {T = Unit {0}} (Ok tt) (length (report sheet)) (length before) ≡ Some why)
 write_report_turned sheet before after answer c why = rw c.answers (entries.print_exactly sheet before why)
 
 -- the number is that of the refusal; where there is none it is not from 1 to 12
 pub check_sheet_c_turned : (sheet before after : List ℕ) (number : ℕ)
     → CheckSheetC sheet before number after
-    → ((why : Refusal) → refusal_to (reading sheet).answer (4 * (most_frames * length (tasks_of sheet))) (length before) ≡ some why → number ≡ number_of why)
-    × (refusal_to (reading sheet).answer (4 * (most_frames * length (tasks_of sheet))) (length before) ≡ none → 1 ≤ number → ¬ (number ≤ 12))
+    → ((why : Refusal) → refusal_to (reading sheet) (4 * (most_frames * length (tasks_of sheet))) (length before) ≡ Some why → number ≡ number_of why)
+    × (refusal_to (reading sheet) (4 * (most_frames * length (tasks_of sheet))) (length before) ≡ None → 1 ≤ number → ¬ (number ≤ 12))
 check_sheet_c_turned sheet before after number c =
     let (numbered, analysed) = entries.check_exactly sheet before in (
       λ why e. c.answers ∙ numbered why e,
-      λ e l h. outcome_number (policy_of sheet) (tasks_of sheet) (rw (c.answers ∙ analysed e) at l) (rw (c.answers ∙ analysed e) at h),
+      λ e l h. outcome_number (outcome_of (policy_of sheet) (tasks_of sheet)) (rw (c.answers ∙ analysed e) at l) (rw (c.answers ∙ analysed e) at h),
     )
 
 -- a sheet that is not admitted is reported as refused, by its number; one that is admitted is not
-pub report_text_turned : (sheet : List ℕ) (answer : Text)
+pub report_text_turned : (sheet : List ℕ) (answer : ArrayVec ℕ)
     → ReportText sheet answer
-    → ((why : Refusal) → (reading sheet).answer ≡ turned why → said_in (words_in (text_in answer)) ≡ refused (number_of why))
-    × ((reading sheet).answer ≡ Admitted → (number : ℕ) → ¬ (said_in (words_in (text_in answer)) ≡ refused number))
+    → ((why : Refusal) → reading sheet ≡ Err why → said_in (words_in answer.items) ≡ refused (number_of why))
+    × (IsOk (reading sheet) → (number : ℕ) → ¬ (said_in (words_in answer.items) ≡ refused number))
 report_text_turned sheet answer c =
-    let text : text_in answer ≡ report sheet = ap text_in c.answers ∙ text_back (report sheet) in (
+    let text : answer.items ≡ report sheet = c.answers in (
       λ why e.
-          ap (λ (l : List ℕ). said_in (words_in l)) (text ∙ entries.report_turned sheet why (one_applies (sheet_checks sheet) why (sym (reading_answer sheet) ∙ e)))
+          ap (λ (l : List ℕ). said_in (words_in l)) (text ∙ entries.report_turned sheet why (one_applies (sheet_checks sheet) why (reading_refuses sheet why e)))
           ∙ refusing (policy_of sheet) (tasks_of sheet) why,
       λ a number e.
-          let (sound, whole) = entries.reports sheet a in
+          let (sound, whole) = entries.reports sheet (decided_ok sheet a) in
           not_refusing (policy_of sheet) (tasks_of sheet) sound number (ap (λ (l : List ℕ). said_in (words_in l)) (sym (text ∙ whole)) ∙ e),
     )
 
 -- ---- Demand 1: refusal 11 says why
 
 -- The task that it names has no start, and the numbers that it gives are the reason.
-pub analyse_set_says_why : (set : TaskSet) (before after : List ℕ) (answer : Decision) → length set.tasks ≡ most_tasks
-    → AnalyseSet set before answer after → Explained (map task_in (records_of set)) answer.outcome
+pub analyse_set_says_why : (set : TaskSet) (before after : List ℕ) (answer : Result Decision Refusal) → length set.tasks ≡ most_tasks
+    → AnalyseSet set before answer after → Explained (map task_in (records_of set)) (outcome_told answer)
 unfolding admission Explained
 analyse_set_says_why set before after answer sixteen c i why e =
-    let whole = refused_whole (rw (← c.answers) at (entries.set_entry set before sixteen)) (NotMonotonic i why) e in
+    let whole = refused_whole answer (NotMonotonic i why) e in
     list_why set.policy set.task_count (records_of set) i why (of_input _ _ _ i why ((analyse_set_turned set before after answer sixteen c _).0 whole))
 
-pub analyse_sheet_says_why : (sheet before after : List ℕ) (answer : Decision) → AnalyseSheet sheet before answer after → Explained (tasks_of sheet) answer.outcome
+pub analyse_sheet_says_why : (sheet before after : List ℕ) (answer : Result Decision Refusal) → AnalyseSheet sheet before answer after → Explained (tasks_of sheet) (outcome_told answer)
 unfolding Explained
 analyse_sheet_says_why sheet before after answer c i why e =
-    let whole = refused_whole (rw (← c.answers) at (entries.sheet_entry sheet before)) (NotMonotonic i why) e in
+    let whole = refused_whole answer (NotMonotonic i why) e in
     sheet_why sheet i why (of_input _ _ _ i why ((analyse_sheet_turned sheet before after answer c _).0 whole))
 
-pub analyse_list_says_why : (policy : ℕ) (list : List Record) (before after : List ℕ) (answer : Decision)
-    → AnalyseList policy list before answer after → Explained (map task_in list) answer.outcome
+pub analyse_list_says_why : (policy : ℕ) (list : List Record) (before after : List ℕ) (answer : Result Decision Refusal)
+    → AnalyseList policy list before answer after → Explained (map task_in list) (outcome_told answer)
 unfolding Explained
 analyse_list_says_why policy list before after answer c i why e =
-    let whole = refused_whole (rw (← c.answers) at (entries.list_entry policy list before)) (NotMonotonic i why) e in
+    let whole = refused_whole answer (NotMonotonic i why) e in
     list_why policy (length list) list i why (of_input _ _ _ i why ((analyse_list_turned policy list before after answer c _).0 whole))
 
-pub read_list_says_why : (sheet : List ℕ) (before after : List Record) (answer : ListRead) → ReadList sheet before answer after
-    → (i : ℕ) (why : Reason) → answer ≡ not_read (NotMonotonic i why) → NoStart (tasks_of sheet) i why
+pub read_list_says_why : (sheet : List ℕ) (before after : List Record) (answer : Result ListRead Refusal) → ReadList sheet before answer after
+    → (i : ℕ) (why : Reason) → answer ≡ Err (NotMonotonic i why) → NoStart (tasks_of sheet) i why
 read_list_says_why sheet before after answer c i why e = sheet_why sheet i why (of_input _ _ _ i why ((read_list_turned sheet before after answer c _).0 e))
 
-pub write_list_says_why : (version policy : ℕ) (list : List Record) (before after : List ℕ) (answer : Written)
-    → WriteList version policy list before answer after → (i : ℕ) (why : Reason) → answer ≡ not_written (NotMonotonic i why) → NoStart (map task_in list) i why
+pub write_list_says_why : (version policy : ℕ) (list : List Record) (before after : List ℕ) (answer : Result ℕ Refusal)
+    → WriteList version policy list before answer after → (i : ℕ) (why : Reason) → answer ≡ Err (NotMonotonic i why) → NoStart (map task_in list) i why
 write_list_says_why version policy list before after answer c i why e =
     writing_why version policy (length list) list i why (of_input _ _ _ i why ((write_list_turned version policy list before after answer c _).0 e))
 
-pub convert_says_why : (version : ℕ) (sheet before after : List ℕ) (answer : Written)
-    → Convert version sheet before answer after → (i : ℕ) (why : Reason) → answer ≡ not_written (NotMonotonic i why) → NoStart (tasks_of sheet) i why
+pub convert_says_why : (version : ℕ) (sheet before after : List ℕ) (answer : Result ℕ Refusal)
+    → Convert version sheet before answer after → (i : ℕ) (why : Reason) → answer ≡ Err (NotMonotonic i why) → NoStart (tasks_of sheet) i why
 convert_says_why version sheet before after answer c i why e =
     converting_why version sheet i why (of_input _ _ _ i why ((convert_turned version sheet before after answer c _).0 e))
 
 -- The same through C, from the number alone.
 pub analyse_sheet_c_says_why : (sheet before after : List ℕ) (number : ℕ) → AnalyseSheetC sheet before number after
-    → Explained (tasks_of sheet) (decision_by number).outcome
+    → Explained (tasks_of sheet) (outcome_told (decision_by number))
 analyse_sheet_c_says_why sheet before after number c =
     analyse_sheet_says_why sheet before after (decision_by number) (analyse_sheet_c_says sheet before after number c)
 
 pub analyse_list_c_says_why : (policy : ℕ) (list : List Record) (before after : List ℕ) (number : ℕ)
-    → AnalyseListC policy list before number after → Explained (map task_in list) (decision_by number).outcome
+    → AnalyseListC policy list before number after → Explained (map task_in list) (outcome_told (decision_by number))
 analyse_list_c_says_why policy list before after number c =
     analyse_list_says_why policy list before after (decision_by number) (analyse_list_c_says policy list before after number c)
 
 pub read_list_c_says_why : (sheet : List ℕ) (before after : List Record) (number : ℕ) → ReadListC sheet before number after
-    → (i : ℕ) (why : Reason) → list_read_by number ≡ not_read (NotMonotonic i why) → NoStart (tasks_of sheet) i why
+    → (i : ℕ) (why : Reason) → list_read_by number ≡ Err (NotMonotonic i why) → NoStart (tasks_of sheet) i why
 read_list_c_says_why sheet before after number c =
     read_list_says_why sheet before after (list_read_by number) (read_list_c_says sheet before after number c)
 
 pub write_list_c_says_why : (version policy : ℕ) (list : List Record) (before after : List ℕ) (number : ℕ)
-    → WriteListC version policy list before number after → (i : ℕ) (why : Reason) → written_by number ≡ not_written (NotMonotonic i why) → NoStart (map task_in list) i why
+    → WriteListC version policy list before number after → (i : ℕ) (why : Reason) → written_by number ≡ Err (NotMonotonic i why) → NoStart (map task_in list) i why
 write_list_c_says_why version policy list before after number c =
     write_list_says_why version policy list before after (written_by number) (write_list_c_says version policy list before after number c)
 
 pub convert_c_says_why : (version : ℕ) (sheet before after : List ℕ) (number : ℕ)
-    → ConvertC version sheet before number after → (i : ℕ) (why : Reason) → written_by number ≡ not_written (NotMonotonic i why) → NoStart (tasks_of sheet) i why
+    → ConvertC version sheet before number after → (i : ℕ) (why : Reason) → written_by number ≡ Err (NotMonotonic i why) → NoStart (tasks_of sheet) i why
 convert_c_says_why version sheet before after number c =
     convert_says_why version sheet before after (written_by number) (convert_c_says version sheet before after number c)
 
@@ -289,34 +281,34 @@ one_reason_why tasks i a b has x y =
 
 -- ---- Demand 1: a refused call changes nothing
 
-pub analyse_set_refused : (set : TaskSet) (before after : List ℕ) (why : Refusal) → AnalyseSet set before (refused_decision why) after → after ≡ before
+pub analyse_set_refused : (set : TaskSet) (before after : List ℕ) (why : Refusal) → AnalyseSet set before (Err why) after → after ≡ before
 analyse_set_refused set before after why c = c.leaves ∙ entries.set_unchanged why set before (sym c.answers)
 
-pub analyse_sheet_refused : (sheet before after : List ℕ) (why : Refusal) → AnalyseSheet sheet before (refused_decision why) after → after ≡ before
+pub analyse_sheet_refused : (sheet before after : List ℕ) (why : Refusal) → AnalyseSheet sheet before (Err why) after → after ≡ before
 analyse_sheet_refused sheet before after why c = c.leaves ∙ entries.sheet_unchanged why sheet before (sym c.answers)
 
 pub analyse_list_refused : (policy : ℕ) (list : List Record) (before after : List ℕ) (why : Refusal)
-    → AnalyseList policy list before (refused_decision why) after → after ≡ before
+    → AnalyseList policy list before (Err why) after → after ≡ before
 analyse_list_refused policy list before after why c = c.leaves ∙ entries.list_unchanged why policy list before (sym c.answers)
 
-pub read_list_refused : (sheet : List ℕ) (before after : List Record) (why : Refusal) → ReadList sheet before (not_read why) after → after ≡ before
+pub read_list_refused : (sheet : List ℕ) (before after : List Record) (why : Refusal) → ReadList sheet before (Err why) after → after ≡ before
 read_list_refused sheet before after why c = c.leaves ∙ entries.read_unchanged why sheet before (sym c.answers)
 
 pub write_list_refused : (version policy : ℕ) (list : List Record) (before after : List ℕ) (why : Refusal)
-    → WriteList version policy list before (not_written why) after → after ≡ before
+    → WriteList version policy list before (Err why) after → after ≡ before
 write_list_refused version policy list before after why c = c.leaves ∙ entries.write_unchanged why version policy list before (sym c.answers)
 
 pub convert_refused : (version : ℕ) (sheet before after : List ℕ) (why : Refusal)
-    → Convert version sheet before (not_written why) after → after ≡ before
+    → Convert version sheet before (Err why) after → after ≡ before
 convert_refused version sheet before after why c = c.leaves ∙ entries.convert_unchanged why version sheet before (sym c.answers)
 
-pub write_report_refused : (sheet before after : List ℕ) (why : Refusal) → WriteReport sheet before (not_written why) after → after ≡ before
+pub write_report_refused : (sheet before after : List ℕ) (why : Refusal) → WriteReport sheet before (Err why) after → after ≡ before
 write_report_refused sheet before after why c = c.leaves ∙ entries.print_unchanged why sheet before (sym c.answers)
 
 pub check_sheet_c_refused : (sheet before after : List ℕ) (number : ℕ) → 1 ≤ number → number ≤ 12
     → CheckSheetC sheet before number after → after ≡ before
 check_sheet_c_refused sheet before after number l h c =
-    let (decided, same, a) = entries.check_entry sheet before in
+    let (answer, same, a) = entries.check_entry sheet before in
     let e = c.answers ∙ same in
     c.leaves ∙ number_refused a (rw e at l) (rw e at h)
 
@@ -327,15 +319,15 @@ check_sheet_c_refused sheet before after number l h c =
 pub one_bit_damages : (sheet : List ℕ) (i : ℕ) → IsBytes sheet → i < 8 * length sheet → Damaged sheet (with_bit_inverted i sheet)
 one_bit_damages sheet i = damage.one_bit sheet i
 
-module _ (sheet changed : List ℕ) (admitted : (reading sheet).answer ≡ Admitted) (damaged : Damaged sheet changed) where
-  pub analyse_sheet_damaged : (before after : List ℕ) (answer : Decision) → AnalyseSheet changed before answer after
-      → (answer ≡ refused_decision CheckWord) × (after ≡ before)
+module _ (sheet changed : List ℕ) (admitted : IsOk (reading sheet)) (damaged : Damaged sheet changed) where
+  pub analyse_sheet_damaged : (before after : List ℕ) (answer : Result Decision Refusal) → AnalyseSheet changed before answer after
+      → (answer ≡ Err CheckWord) × (after ≡ before)
   analyse_sheet_damaged before after answer c =
       let t = entries.sheet_turned changed CheckWord (damage.damaged_is_2 sheet changed admitted damaged) before in
       (c.answers ∙ t.0, c.leaves ∙ t.1)
 
   pub analyse_sheet_c_damaged : (before after : List ℕ) (number : ℕ) → AnalyseSheetC changed before number after
-      → (decision_by number ≡ refused_decision CheckWord) × (after ≡ before)
+      → (decision_by number ≡ Err CheckWord) × (after ≡ before)
   analyse_sheet_c_damaged before after number c = analyse_sheet_damaged before after (decision_by number) (analyse_sheet_c_says changed before after number c)
 
   pub check_sheet_c_damaged : (before after : List ℕ) (number : ℕ) → CheckSheetC changed before number after
@@ -344,63 +336,63 @@ module _ (sheet changed : List ℕ) (admitted : (reading sheet).answer ≡ Admit
       let t = entries.check_turned changed CheckWord (damage.damaged_is_2 sheet changed admitted damaged) before in
       (c.answers ∙ t.0, c.leaves ∙ t.1)
 
-  pub read_list_damaged : (before after : List Record) (answer : ListRead) → ReadList changed before answer after
-      → (answer ≡ not_read CheckWord) × (after ≡ before)
+  pub read_list_damaged : (before after : List Record) (answer : Result ListRead Refusal) → ReadList changed before answer after
+      → (answer ≡ Err CheckWord) × (after ≡ before)
   read_list_damaged before after answer c =
       let t = entries.read_turned changed CheckWord (damage.damaged_is_2 sheet changed admitted damaged) before in
       (c.answers ∙ t.0, c.leaves ∙ t.1)
 
   pub read_list_c_damaged : (before after : List Record) (number : ℕ) → ReadListC changed before number after
-      → (list_read_by number ≡ not_read CheckWord) × (after ≡ before)
+      → (list_read_by number ≡ Err CheckWord) × (after ≡ before)
   read_list_c_damaged before after number c = read_list_damaged before after (list_read_by number) (read_list_c_says changed before after number c)
 
-  pub report_text_damaged : (answer : Text) → ReportText changed answer → text_in answer ≡ line (refused_word ∷ decimal 2 ∷ [])
+  pub report_text_damaged : (answer : ArrayVec ℕ) → ReportText changed answer → answer.items ≡ line (refused_word ∷ decimal 2 ∷ [])
   unfolding first_line
   report_text_damaged answer c =
-      ap text_in c.answers ∙ text_back (report changed) ∙ entries.report_turned changed CheckWord (damage.damaged_is_2 sheet changed admitted damaged)
+      c.answers ∙ entries.report_turned changed CheckWord (damage.damaged_is_2 sheet changed admitted damaged)
 
 -- ---- Demand 2, of lists
 
 -- What `read_list` leaves where it answers with a version, a policy and a count: a record of each task of the sheet, 0 in slots past its frame count.
 pub read_list_fills : (sheet : List ℕ) (before after : List Record) (version policy n : ℕ)
-    → ReadList sheet before (Set version policy n) after
-    → ((reading sheet).answer ≡ Admitted) × (version ≡ version_of sheet) × (policy ≡ policy_of sheet) × (take n after ≡ map record_of (tasks_of sheet))
+    → ReadList sheet before (Ok (record { version = version; policy = policy; task_count = n })) after
+    → IsOk (reading sheet) × (version ≡ version_of sheet) × (policy ≡ policy_of sheet) × (take n after ≡ map record_of (tasks_of sheet))
 read_list_fills sheet before after version policy n r =
-    trip.read_records sheet before after version policy n (Set version policy n) refl (subst₂ (entries.Read sheet before) (sym r.answers) (sym r.leaves) (entries.read_entry sheet before))
+    trip.read_records sheet before after _ (Ok (record { version = version; policy = policy; task_count = n })) refl (subst₂ (entries.Read sheet before) (sym r.answers) (sym r.leaves) (entries.read_entry sheet before))
 
 -- What `write_list` leaves where it answers with a number of bytes: the sheet of the policy and the tasks in that version.
 pub write_list_writes : (version policy : ℕ) (list : List Record) (before after : List ℕ) (n : ℕ)
-    → WriteList version policy list before (Bytes n) after
+    → WriteList version policy list before (Ok n) after
     → take n after ≡ sheet_of version policy (map task_in list)
 write_list_writes version policy list before after n w =
-    (trip.written_sheet version policy list before after n (Bytes n) refl
+    (trip.written_sheet version policy list before after n (Ok n) refl
     (subst₂ (entries.Wrote version policy list before) (sym w.answers) (sym w.leaves) (entries.write_entry version policy list before))).1
 
 -- What `write_report` leaves where it answers with a number of bytes: the whole report, of a refused sheet too.
 pub write_report_writes : (sheet before after : List ℕ) (n : ℕ)
-    → WriteReport sheet before (Bytes n) after
+    → WriteReport sheet before (Ok n) after
     → (n ≡ length (report sheet)) × (take n after ≡ report sheet)
 write_report_writes sheet before after n w =
-    printed_text sheet before n (Bytes n) refl (subst₂ (entries.Printed sheet before) (sym w.answers) (sym w.leaves) (entries.print_entry sheet before))
+    printed_text sheet before n (Ok n) refl (subst₂ (entries.Printed sheet before) (sym w.answers) (sym w.leaves) (entries.print_entry sheet before))
 
 -- so of a sheet that was damaged (demand 1) a line that refuses it
-pub write_report_damaged : (sheet changed : List ℕ) → (reading sheet).answer ≡ Admitted → Damaged sheet changed
-    → (before after : List ℕ) (n : ℕ) → WriteReport changed before (Bytes n) after → take n after ≡ line (refused_word ∷ decimal 2 ∷ [])
+pub write_report_damaged : (sheet changed : List ℕ) → IsOk (reading sheet) → Damaged sheet changed
+    → (before after : List ℕ) (n : ℕ) → WriteReport changed before (Ok n) after → take n after ≡ line (refused_word ∷ decimal 2 ∷ [])
 unfolding first_line
 write_report_damaged sheet changed admitted damaged before after n w =
     (write_report_writes changed before after n w).1 ∙ entries.report_turned changed CheckWord (damage.damaged_is_2 sheet changed admitted damaged)
 
 -- `write_list`, then `read_list` of the bytes written into a list that is long enough: the same version and policy, and the same tasks over the slots in use.
-pub write_then_read_list : (version policy : ℕ) (list before after : List Record) (room written : List ℕ) (n : ℕ) (answer : ListRead)
-    → WriteList version policy list room (Bytes n) written
+pub write_then_read_list : (version policy : ℕ) (list before after : List Record) (room written : List ℕ) (n : ℕ) (answer : Result ListRead Refusal)
+    → WriteList version policy list room (Ok n) written
     → length list ≤ length before
     → ReadList (take n written) before answer after
-    → (answer ≡ Set version policy (length list))
+    → (answer ≡ Ok (record { version = version; policy = policy; task_count = length list }))
     × (map task_in (take (length list) after) ≡ map task_in list)
     × (drop (length list) after ≡ drop (length list) before)
 write_then_read_list version policy list before after room written n answer w fits r =
     let (held, same) =
-    trip.written_sheet version policy list room written n (Bytes n) refl
+    trip.written_sheet version policy list room written n (Ok n) refl
     (subst₂ (entries.Wrote version policy list room) (sym w.answers) (sym w.leaves) (entries.write_entry version policy list room)) in
     let (said, tasks, rest) = trip.read_back version policy list before held fits in (
       r.answers ∙ ap (λ (s : List ℕ). list_read s before) same ∙ said,
@@ -409,16 +401,16 @@ write_then_read_list version policy list before after room written n answer w fi
     )
 
 -- `read_list`, then `write_list` of the records read into room that is long enough: the same bytes.
-pub read_then_write_list : (sheet room written : List ℕ) (before after : List Record) (version policy n : ℕ) (answer : Written) → IsBytes sheet
-    → ReadList sheet before (Set version policy n) after
+pub read_then_write_list : (sheet room written : List ℕ) (before after : List Record) (version policy n : ℕ) (answer : Result ℕ Refusal) → IsBytes sheet
+    → ReadList sheet before (Ok (record { version = version; policy = policy; task_count = n })) after
     → length sheet ≤ length room
     → WriteList version policy (take n after) room answer written
-    → (answer ≡ Bytes (length sheet))
+    → (answer ≡ Ok (length sheet))
     × (take (length sheet) written ≡ sheet)
     × (drop (length sheet) written ≡ drop (length sheet) room)
 unfolding laid
 read_then_write_list sheet room written before after version policy n answer byte r fits w =
-    let (admitted, v, p, records) = trip.read_records sheet before after version policy n (Set version policy n) refl (subst₂ (entries.Read sheet before) (sym r.answers) (sym r.leaves) (entries.read_entry sheet before)) in
+    let (admitted, v, p, records) = trip.read_records sheet before after _ (Ok (record { version = version; policy = policy; task_count = n })) refl (subst₂ (entries.Read sheet before) (sym r.answers) (sym r.leaves) (entries.read_entry sheet before)) in
     let (said, left) = trip.write_back sheet room byte admitted fits in
     let whole =
     w.leaves ∙ ap (λ (f : ℕ). list_left f policy (take n after) room) v ∙ ap₂ (λ (q : ℕ) (l : List Record). list_left (version_of sheet) q l room) p records ∙ left in (
@@ -432,10 +424,10 @@ read_then_write_list sheet room written before after version policy n answer byt
 
 -- The same through C.
 pub write_then_read_list_c : (version policy : ℕ) (list before after : List Record) (room written : List ℕ) (n number answer : ℕ)
-    → WriteListC version policy list room number written → written_by number ≡ Bytes n
+    → WriteListC version policy list room number written → written_by number ≡ Ok n
     → length list ≤ length before
     → ReadListC (take n written) before answer after
-    → (list_read_by answer ≡ Set version policy (length list))
+    → (list_read_by answer ≡ Ok (record { version = version; policy = policy; task_count = length list }))
     × (map task_in (take (length list) after) ≡ map task_in list)
     × (drop (length list) after ≡ drop (length list) before)
 write_then_read_list_c version policy list before after room written n number answer w e fits r =
@@ -443,10 +435,10 @@ write_then_read_list_c version policy list before after room written n number an
     (rw e at (write_list_c_says version policy list room written number w)) fits (read_list_c_says (take n written) before after answer r)
 
 pub read_then_write_list_c : (sheet room written : List ℕ) (before after : List Record) (version policy n number answer : ℕ) → IsBytes sheet
-    → ReadListC sheet before number after → list_read_by number ≡ Set version policy n
+    → ReadListC sheet before number after → list_read_by number ≡ Ok (record { version = version; policy = policy; task_count = n })
     → length sheet ≤ length room
     → WriteListC version policy (take n after) room answer written
-    → (written_by answer ≡ Bytes (length sheet))
+    → (written_by answer ≡ Ok (length sheet))
     × (take (length sheet) written ≡ sheet)
     × (drop (length sheet) written ≡ drop (length sheet) room)
 read_then_write_list_c sheet room written before after version policy n number answer byte r e fits w =
@@ -462,21 +454,21 @@ no_worst_time_is_zero policy tasks i k w = omega (arith, w.least.positive)
 -- ---- Demand 3: what the answer says is so of every run, and the lent memory holds the worst times
 
 -- `analyse_set`. A set by value has sixteen records, of which `task_count` are in use.
-pub analyse_set_signed : (set : TaskSet) (before after : List ℕ) (answer : Decision) → length set.tasks ≡ most_tasks
+pub analyse_set_signed : (set : TaskSet) (before after : List ℕ) (answer : Result Decision Refusal) → length set.tasks ≡ most_tasks
     → AnalyseSet set before answer after
-    → Signed set.policy (map task_in (records_of set)) in_numbers before after (said answer.outcome)
+    → Signed set.policy (map task_in (records_of set)) in_numbers before after (said (outcome_told answer))
 analyse_set_signed set before after answer sixteen c = rw (c.answers, c.leaves) (promised (entries.set_entry set before sixteen))
 
 -- `analyse_sheet`
-pub analyse_sheet_signed : (sheet before after : List ℕ) (answer : Decision)
+pub analyse_sheet_signed : (sheet before after : List ℕ) (answer : Result Decision Refusal)
     → AnalyseSheet sheet before answer after
-    → Signed (policy_of sheet) (tasks_of sheet) in_numbers before after (said answer.outcome)
+    → Signed (policy_of sheet) (tasks_of sheet) in_numbers before after (said (outcome_told answer))
 analyse_sheet_signed sheet before after answer c = rw (c.answers, c.leaves) (promised (entries.sheet_entry sheet before))
 
 -- `analyse_list`
-pub analyse_list_signed : (policy : ℕ) (list : List Record) (before after : List ℕ) (answer : Decision)
+pub analyse_list_signed : (policy : ℕ) (list : List Record) (before after : List ℕ) (answer : Result Decision Refusal)
     → AnalyseList policy list before answer after
-    → Signed policy (map task_in list) in_numbers before after (said answer.outcome)
+    → Signed policy (map task_in list) in_numbers before after (said (outcome_told answer))
 analyse_list_signed policy list before after answer c = rw (c.answers, c.leaves) (promised (entries.list_entry policy list before))
 
 -- `burrbeech_check_sheet`: what its number says, and the times in four bytes each
@@ -484,30 +476,30 @@ pub check_sheet_c_signed : (sheet before after : List ℕ) (number : ℕ)
     → CheckSheetC sheet before number after
     → Signed (policy_of sheet) (tasks_of sheet) in_bytes before after (said_by number)
 check_sheet_c_signed sheet before after number c =
-    let (decided, same, a) = entries.check_entry sheet before in
-    rw (c.answers ∙ same, c.leaves, said_back decided.outcome (few_of a)) (promised a)
+    let (answer, same, a) = entries.check_entry sheet before in
+    rw (c.answers ∙ same, c.leaves, said_back (outcome_told answer) (few_of a)) (promised a)
 
 pub analyse_sheet_c_signed : (sheet before after : List ℕ) (number : ℕ)
     → AnalyseSheetC sheet before number after
-    → Signed (policy_of sheet) (tasks_of sheet) in_numbers before after (said (decision_by number).outcome)
+    → Signed (policy_of sheet) (tasks_of sheet) in_numbers before after (said (outcome_told (decision_by number)))
 analyse_sheet_c_signed sheet before after number c =
     analyse_sheet_signed sheet before after (decision_by number) (analyse_sheet_c_says sheet before after number c)
 
 pub analyse_list_c_signed : (policy : ℕ) (list : List Record) (before after : List ℕ) (number : ℕ)
     → AnalyseListC policy list before number after
-    → Signed policy (map task_in list) in_numbers before after (said (decision_by number).outcome)
+    → Signed policy (map task_in list) in_numbers before after (said (outcome_told (decision_by number)))
 analyse_list_c_signed policy list before after number c =
     analyse_list_signed policy list before after (decision_by number) (analyse_list_c_says policy list before after number c)
 
 -- `report_text`: what the first line says, and the line of each task
-pub report_text_signed : (sheet : List ℕ) (answer : Text)
+pub report_text_signed : (sheet : List ℕ) (answer : ArrayVec ℕ)
     → ReportText sheet answer
-    → ReportSigned (policy_of sheet) (tasks_of sheet) (text_in answer) (said_in (words_in (text_in answer)))
+    → ReportSigned (policy_of sheet) (tasks_of sheet) answer.items (said_in (words_in answer.items))
 report_text_signed sheet answer c =
-    rw (ap text_in c.answers ∙ text_back (report sheet)) (report_promised (policy_of sheet) (tasks_of sheet) (report sheet) (entries.report_entry sheet))
+    rw c.answers (report_promised (policy_of sheet) (tasks_of sheet) (report sheet) (entries.report_entry sheet))
 
 -- the same of its text in lent bytes
-pub write_report_signed : (sheet before after : List ℕ) (answer : Written)
+pub write_report_signed : (sheet before after : List ℕ) (answer : Result ℕ Refusal)
     → WriteReport sheet before answer after
     → ReportLeft (policy_of sheet) (tasks_of sheet) before after answer
 write_report_signed sheet before after answer c = rw (c.answers, c.leaves) (printed_signed sheet before (entries.print_entry sheet before))
@@ -519,68 +511,71 @@ report_c_signed sheet before after number c = write_report_signed sheet before a
 
 -- ---- The count that an answer gives is that of the tasks; 0 where the call is refused
 
-pub analyse_set_counts : (set : TaskSet) (before after : List ℕ) (answer : Decision) → length set.tasks ≡ most_tasks
+pub analyse_set_counts : (set : TaskSet) (before after : List ℕ) (answer : Result Decision Refusal) → length set.tasks ≡ most_tasks
     → AnalyseSet set before answer after
-    → answer.task_count ≡ count_said (length (map task_in (records_of set))) (said answer.outcome)
+    → count_told answer ≡ count_said (length (map task_in (records_of set))) (said (outcome_told answer))
 analyse_set_counts set before after answer sixteen c = rw c.answers (counted (entries.set_entry set before sixteen))
 
-pub analyse_sheet_counts : (sheet before after : List ℕ) (answer : Decision)
+pub analyse_sheet_counts : (sheet before after : List ℕ) (answer : Result Decision Refusal)
     → AnalyseSheet sheet before answer after
-    → answer.task_count ≡ count_said (length (tasks_of sheet)) (said answer.outcome)
+    → count_told answer ≡ count_said (length (tasks_of sheet)) (said (outcome_told answer))
 analyse_sheet_counts sheet before after answer c = rw c.answers (counted (entries.sheet_entry sheet before))
 
-pub analyse_list_counts : (policy : ℕ) (list : List Record) (before after : List ℕ) (answer : Decision)
+pub analyse_list_counts : (policy : ℕ) (list : List Record) (before after : List ℕ) (answer : Result Decision Refusal)
     → AnalyseList policy list before answer after
-    → answer.task_count ≡ count_said (length (map task_in list)) (said answer.outcome)
+    → count_told answer ≡ count_said (length (map task_in list)) (said (outcome_told answer))
 analyse_list_counts policy list before after answer c = rw c.answers (counted (entries.list_entry policy list before))
 
 -- ---- For the same input a second conforming call answers and leaves the same
 
-pub one_analyse_set : (set : TaskSet) (before x y : List ℕ) (a b : Decision) → AnalyseSet set before a x → AnalyseSet set before b y → (a ≡ b) × (x ≡ y)
-one_analyse_set set before x y a b c d = (c.answers ∙ sym d.answers, c.leaves ∙ sym d.leaves)
+pub one_call : {X A : Type 0} {due : X} {left : List A} {a b : X} {x y : List A} → Keeps due left a x → Keeps due left b y → (a ≡ b) × (x ≡ y)
+one_call c d = (c.answers ∙ sym d.answers, c.leaves ∙ sym d.leaves)
 
-pub one_analyse_sheet : (sheet before x y : List ℕ) (a b : Decision) → AnalyseSheet sheet before a x → AnalyseSheet sheet before b y → (a ≡ b) × (x ≡ y)
-one_analyse_sheet sheet before x y a b c d = (c.answers ∙ sym d.answers, c.leaves ∙ sym d.leaves)
+pub one_analyse_set : (set : TaskSet) (before x y : List ℕ) (a b : Result Decision Refusal) → AnalyseSet set before a x → AnalyseSet set before b y → (a ≡ b) × (x ≡ y)
+one_analyse_set set before x y a b c d = one_call c d
 
-pub one_analyse_list : (policy : ℕ) (list : List Record) (before x y : List ℕ) (a b : Decision)
+pub one_analyse_sheet : (sheet before x y : List ℕ) (a b : Result Decision Refusal) → AnalyseSheet sheet before a x → AnalyseSheet sheet before b y → (a ≡ b) × (x ≡ y)
+one_analyse_sheet sheet before x y a b c d = one_call c d
+
+pub one_analyse_list : (policy : ℕ) (list : List Record) (before x y : List ℕ) (a b : Result Decision Refusal)
     → AnalyseList policy list before a x → AnalyseList policy list before b y → (a ≡ b) × (x ≡ y)
-one_analyse_list policy list before x y a b c d = (c.answers ∙ sym d.answers, c.leaves ∙ sym d.leaves)
+one_analyse_list policy list before x y a b c d = one_call c d
 
-pub one_read_list : (sheet : List ℕ) (before x y : List Record) (a b : ListRead) → ReadList sheet before a x → ReadList sheet before b y → (a ≡ b) × (x ≡ y)
-one_read_list sheet before x y a b c d = (c.answers ∙ sym d.answers, c.leaves ∙ sym d.leaves)
+pub one_read_list : (sheet : List ℕ) (before x y : List Record) (a b : Result ListRead Refusal) → ReadList sheet before a x → ReadList sheet before b y → (a ≡ b) × (x ≡ y)
+one_read_list sheet before x y a b c d = one_call c d
 
-pub one_write_list : (version policy : ℕ) (list : List Record) (before x y : List ℕ) (a b : Written)
+pub one_write_list : (version policy : ℕ) (list : List Record) (before x y : List ℕ) (a b : Result ℕ Refusal)
     → WriteList version policy list before a x → WriteList version policy list before b y → (a ≡ b) × (x ≡ y)
-one_write_list version policy list before x y a b c d = (c.answers ∙ sym d.answers, c.leaves ∙ sym d.leaves)
+one_write_list version policy list before x y a b c d = one_call c d
 
 pub one_check_sheet_c : (sheet before x y : List ℕ) (a b : ℕ) → CheckSheetC sheet before a x → CheckSheetC sheet before b y → (a ≡ b) × (x ≡ y)
-one_check_sheet_c sheet before x y a b c d = (c.answers ∙ sym d.answers, c.leaves ∙ sym d.leaves)
+one_check_sheet_c sheet before x y a b c d = one_call c d
 
 pub one_analyse_sheet_c : (sheet before x y : List ℕ) (a b : ℕ) → AnalyseSheetC sheet before a x → AnalyseSheetC sheet before b y → (a ≡ b) × (x ≡ y)
-one_analyse_sheet_c sheet before x y a b c d = (c.answers ∙ sym d.answers, c.leaves ∙ sym d.leaves)
+one_analyse_sheet_c sheet before x y a b c d = one_call c d
 
 pub one_analyse_list_c : (policy : ℕ) (list : List Record) (before x y : List ℕ) (a b : ℕ)
     → AnalyseListC policy list before a x → AnalyseListC policy list before b y → (a ≡ b) × (x ≡ y)
-one_analyse_list_c policy list before x y a b c d = (c.answers ∙ sym d.answers, c.leaves ∙ sym d.leaves)
+one_analyse_list_c policy list before x y a b c d = one_call c d
 
 pub one_read_list_c : (sheet : List ℕ) (before x y : List Record) (a b : ℕ) → ReadListC sheet before a x → ReadListC sheet before b y → (a ≡ b) × (x ≡ y)
-one_read_list_c sheet before x y a b c d = (c.answers ∙ sym d.answers, c.leaves ∙ sym d.leaves)
+one_read_list_c sheet before x y a b c d = one_call c d
 
 pub one_write_list_c : (version policy : ℕ) (list : List Record) (before x y : List ℕ) (a b : ℕ)
     → WriteListC version policy list before a x → WriteListC version policy list before b y → (a ≡ b) × (x ≡ y)
-one_write_list_c version policy list before x y a b c d = (c.answers ∙ sym d.answers, c.leaves ∙ sym d.leaves)
+one_write_list_c version policy list before x y a b c d = one_call c d
 
-pub one_convert : (version : ℕ) (sheet before x y : List ℕ) (a b : Written) → Convert version sheet before a x → Convert version sheet before b y → (a ≡ b) × (x ≡ y)
-one_convert version sheet before x y a b c d = (c.answers ∙ sym d.answers, c.leaves ∙ sym d.leaves)
+pub one_convert : (version : ℕ) (sheet before x y : List ℕ) (a b : Result ℕ Refusal) → Convert version sheet before a x → Convert version sheet before b y → (a ≡ b) × (x ≡ y)
+one_convert version sheet before x y a b c d = one_call c d
 
 pub one_convert_c : (version : ℕ) (sheet before x y : List ℕ) (a b : ℕ) → ConvertC version sheet before a x → ConvertC version sheet before b y → (a ≡ b) × (x ≡ y)
-one_convert_c version sheet before x y a b c d = (c.answers ∙ sym d.answers, c.leaves ∙ sym d.leaves)
+one_convert_c version sheet before x y a b c d = one_call c d
 
-pub one_report_text : (sheet : List ℕ) (a b : Text) → ReportText sheet a → ReportText sheet b → a ≡ b
-one_report_text sheet a b c d = c.answers ∙ sym d.answers
+pub one_report_text : (sheet : List ℕ) (a b : ArrayVec ℕ) → ReportText sheet a → ReportText sheet b → a ≡ b
+one_report_text sheet a b c d = ap (λ (l : List ℕ). record { items = l }) (c.answers ∙ sym d.answers)
 
-pub one_write_report : (sheet before x y : List ℕ) (a b : Written) → WriteReport sheet before a x → WriteReport sheet before b y → (a ≡ b) × (x ≡ y)
-one_write_report sheet before x y a b c d = (c.answers ∙ sym d.answers, c.leaves ∙ sym d.leaves)
+pub one_write_report : (sheet before x y : List ℕ) (a b : Result ℕ Refusal) → WriteReport sheet before a x → WriteReport sheet before b y → (a ≡ b) × (x ≡ y)
+one_write_report sheet before x y a b c d = one_call c d
 
 pub one_report_c : (sheet before x y : List ℕ) (a b : ℕ) → ReportC sheet before a x → ReportC sheet before b y → (a ≡ b) × (x ≡ y)
-one_report_c sheet before x y a b c d = (c.answers ∙ sym d.answers, c.leaves ∙ sym d.leaves)
+one_report_c sheet before x y a b c d = one_call c d

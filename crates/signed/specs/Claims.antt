@@ -1,6 +1,6 @@
 -- What we sign for: what an answer says of every run of the set, and what stands in the lent memory after the call.
-use Rattle.std.specs.Prelude.{cond, List, ◌⊎◌, ◌≡◌, ℕ, ◌+◌, ◌*◌, ◌^◌, ◌≤◌, ◌<◌, ltb, length, get_or, drop}
-use Rattle.std.proofs.Math.Option.{Option, none, some}
+use Rattle.std.specs.Prelude.{cond, List, ◌⊎◌, ◌≡◌, ℕ, ◌+◌, ◌*◌, ◌≤◌, ◌<◌, ltb, length, get_or, drop, Err, None, Ok, Option, Result, Some}
+use Rattle.std.specs.Int.{w32, from_be_bytes}
 use Rattle.bits.specs.Packed.{Bytes, bits_of}
 use Rattle.check_word.specs.Change.{AgreeOutside}
 use Rattle.check_word.specs.Division.{word_width}
@@ -11,33 +11,39 @@ use Rattle.theory.specs.Analysis.{IsResponse, demand_of, blocker}
 use Rattle.theory.specs.Runs.{Run}
 use Rattle.sheet.specs.Constants.{most_frames}
 use Rattle.sheet.specs.Refusals.{number_of}
-use Rattle.sheet.specs.declared.Answer.{Answer}
-use Rattle.sheet.specs.declared.Answer.TheVariants.{Admitted}
-use Rattle.sheet.specs.declared.Answer.TheVariants.{Refused as turned}
 use Rattle.sheet.specs.declared.Reason.{Reason}
 use Rattle.sheet.specs.declared.Refusal.{Refusal}
 use Rattle.sheet.specs.declared.Refusal.TheVariants.{NotMonotonic, Room}
 use Rattle.order.specs.Order.{priority_order, ordered_set}
-use Rattle.order.specs.declared.Blocker.{Blocker}
-use Rattle.order.specs.declared.Blocker.TheVariants.{At}
 use Rattle.analysis.specs.Times.{blocker_number}
 use Rattle.analysis.specs.Runs.{RunOf, place, TaskMisses, TaskTakesLonger, TaskTakes}
-use Rattle.analysis.specs.declared.Outcome.{Outcome}
-use Rattle.analysis.specs.declared.Outcome.TheVariants.{Holds, Missed, Refused}
+use Rattle.analysis.specs.declared.Decision.{Decision}
+use Rattle.analysis.specs.declared.Verdict.{Verdict}
+use Rattle.analysis.specs.declared.Verdict.TheVariants.{Holds, Missed}
 
 -- ---- what an answer says
 
 -- The set holds; or this task misses, with this blocker; or the call is refused, by number.
 pub data Said : Type 0 where
   holds : Said
-  missed : (task : ℕ) (by : Blocker) → Said
+  missed : (task : ℕ) (by : Option ℕ) → Said
   refused : (number : ℕ) → Said
 
 -- what the outcome says
-unfoldable pub said : Outcome → Said
-said Holds = holds
-said (Missed i b) = missed i b
-said (Refused why) = refused (number_of why)
+unfoldable pub said : Result Verdict Refusal → Said
+said (Ok Holds) = holds
+said (Ok (Missed i b)) = missed i b
+said (Err why) = refused (number_of why)
+
+-- the outcome of an answer that gives a decision
+unfoldable pub outcome_told : Result Decision Refusal → Result Verdict Refusal
+outcome_told (Ok decision) = Ok decision.verdict
+outcome_told (Err why) = Err why
+
+-- the count of tasks that it gives, 0 where the call is refused
+unfoldable pub count_told : Result Decision Refusal → ℕ
+count_told (Ok decision) = decision.task_count
+count_told (Err why) = 0
 
 -- how many tasks it speaks of: all n of them, or none where the call is refused
 unfoldable pub count_said : ℕ → Said → ℕ
@@ -59,8 +65,7 @@ size in_bytes = 4
 -- the time in slot j of the memory; of four bytes the high byte stands first
 unfoldable pub time_in : Kept → List ℕ → ℕ → ℕ
 time_in in_numbers memory j = get_or memory j 0
-time_in in_bytes memory j =
-    get_or memory (4 * j) 0 * 2 ^ 24 + get_or memory (4 * j + 1) 0 * 2 ^ 16 + get_or memory (4 * j + 2) 0 * 2 ^ 8 + get_or memory (4 * j + 3) 0
+time_in in_bytes memory j = from_be_bytes w32 (drop (4 * j) memory)
 
 -- ---- demand 3, of tasks listed by number, under a policy
 
@@ -92,11 +97,11 @@ pub record Untimed (policy : ℕ) (tasks : List Task) (time : ℕ → ℕ) (i : 
   pub misses : SomeMiss policy tasks i
 
 -- Task p is named with blocker b: it is a task of the set and misses in some run, and b is its blocker by the definitions, a task of the set if any.
-pub record Named (policy : ℕ) (tasks : List Task) (p : ℕ) (b : Blocker) : Type 0 where
+pub record Named (policy : ℕ) (tasks : List Task) (p : ℕ) (b : Option ℕ) : Type 0 where
   pub in_set : p < length tasks
   pub misses : SomeMiss policy tasks p
   pub blocked_by : b ≡ blocker_number (priority_order policy tasks) (blocker (ordered_set policy tasks) (place policy tasks p))
-  pub blocker_in_set : (q : ℕ) → b ≡ At q → q < length tasks
+  pub blocker_in_set : (q : ℕ) → b ≡ Some q → q < length tasks
 
 -- Each task has its times, or has none and misses in some run; every task above task p has them.
 pub record TimesUpTo (policy : ℕ) (tasks : List Task) (time : ℕ → ℕ) (p : ℕ) : Type 0 where
@@ -127,9 +132,9 @@ Signed policy tasks kept before after (refused number) = (1 ≤ number) × (numb
 -- ---- demand 1
 
 -- The one refusal of a call: that of its input, or else 12 where the lent memory has fewer elements than are needed, or else none.
-unfoldable pub refusal_to : Answer → (needs has : ℕ) → Option Refusal
-refusal_to (turned why) needs has = some why
-refusal_to Admitted needs has = cond (ltb has needs) (some Room) none
+unfoldable pub refusal_to : {T : Type 0} → Result T Refusal → (needs has : ℕ) → Option Refusal
+refusal_to (Err why) needs has = Some why
+refusal_to (Ok _) needs has = cond (ltb has needs) (Some Room) None
 
 -- What refusal 11 says: task i is a task of the set, none of its frames qualifies as start, and these numbers are the reason (there is one where there
 -- is a frame, as 7 has looked).
@@ -139,11 +144,11 @@ pub record NoStart (tasks : List Task) (i : ℕ) (why : Reason) : Type 0 where
   pub reason : 1 ≤ frame_count (task_at tasks i) → IsReason (task_at tasks i) why.frame why.length why.other
 
 -- An outcome that refuses with 11 says so of the tasks.
-unfoldable pub Explained : List Task → Outcome → Type 0
-Explained tasks outcome = (i : ℕ) (why : Reason) → outcome ≡ Refused (NotMonotonic i why) → NoStart tasks i why
+unfoldable pub Explained : List Task → Result Verdict Refusal → Type 0
+Explained tasks outcome = (i : ℕ) (why : Reason) → outcome ≡ Err (NotMonotonic i why) → NoStart tasks i why
 
 -- What we sign for an outcome: of the runs and of the lent memory by what it says, and of refusal 11 why.
-unfoldable pub OutcomeSigned : (policy : ℕ) (tasks : List Task) (kept : Kept) (before after : List ℕ) → Outcome → Type 0
+unfoldable pub OutcomeSigned : (policy : ℕ) (tasks : List Task) (kept : Kept) (before after : List ℕ) → Result Verdict Refusal → Type 0
 OutcomeSigned policy tasks kept before after outcome = Signed policy tasks kept before after (said outcome) × Explained tasks outcome
 
 -- Byte string t is s changed within sixteen neighbouring bits, as many as the check word has.

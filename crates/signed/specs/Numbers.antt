@@ -1,33 +1,23 @@
 -- What the numbers say that C gets: the answer, computed from the number alone.
-use Rattle.std.specs.Prelude.{cond, [], ◌∷◌, ℕ, ◌+◌, ◌-◌, ◌*◌, ◌/◌, ◌%◌, ◌≤◌, ◌<◌, ltb, eqb, get_or}
+use Rattle.std.specs.Prelude.{cond, [], ◌∷◌, ℕ, ◌+◌, ◌-◌, ◌*◌, ◌/◌, ◌%◌, ◌≤◌, ◌<◌, ltb, eqb, get_or, Err, None, Ok, Option, Result, Some}
 use Rattle.sheet.specs.declared.Reason.{Reason}
 use Rattle.sheet.specs.declared.Refusal.{Refusal}
 use Rattle.sheet.specs.declared.Refusal.TheVariants.{Length, CheckWord, Version, Policy, BitSet, TaskCount, FrameCount, Records, IllFormed, Lock, NotMonotonic, Room, Deadlines}
-use Rattle.sheet.specs.declared.Written.{Written}
-use Rattle.sheet.specs.declared.Written.TheVariants.{Bytes}
-use Rattle.sheet.specs.declared.Written.TheVariants.{TurnedAway as not_written}
-use Rattle.order.specs.declared.Blocker.{Blocker}
-use Rattle.order.specs.declared.Blocker.TheVariants.{At, Nobody}
-use Rattle.analysis.specs.Answers.{misses_from, blockers, refused_decision}
-use Rattle.analysis.specs.declared.Outcome.{Outcome}
-use Rattle.analysis.specs.declared.Outcome.TheVariants.{Holds, Missed}
+use Rattle.analysis.specs.Answers.{misses_from, blockers}
+use Rattle.analysis.specs.declared.Verdict.{Verdict}
+use Rattle.analysis.specs.declared.Verdict.TheVariants.{Holds, Missed}
 use Rattle.analysis.specs.declared.Decision.{Decision}
 use Rattle.lists.specs.declared.ListRead.{ListRead}
-use Rattle.lists.specs.declared.ListRead.TheVariants.{Set}
-use Rattle.lists.specs.declared.ListRead.TheVariants.{TurnedAway as not_read}
 use Rattle.player.specs.declared.PlayRefusal.{PlayRefusal}
 use Rattle.player.specs.declared.PlayRefusal.TheVariants.{Base, Malformed, Item}
 use Rattle.player.specs.declared.Played.{Played}
 use Rattle.player.specs.declared.Played.TheVariants.{Done}
-use Rattle.player.specs.declared.Played.TheVariants.{Missed as first_missed, TurnedAway as not_played}
-use Rattle.worst.specs.declared.Worst.{Worst}
-use Rattle.worst.specs.declared.Worst.TheVariants.{Written as script_written}
-use Rattle.worst.specs.declared.Worst.TheVariants.{Holds as set_holds, TurnedAway as no_script}
+use Rattle.player.specs.declared.Played.TheVariants.{Missed as first_missed}
 use Rattle.signed.specs.Claims.{Said, holds, missed, refused}
 
 -- 16 stands for no blocker
-unfoldable pub blocker_by : ℕ → Blocker
-blocker_by b = cond (eqb b 16) Nobody (At b)
+unfoldable pub blocker_by : ℕ → Option ℕ
+blocker_by b = cond (eqb b 16) None (Some b)
 
 -- `burrbeech_check_sheet`: 0 for holds, below 100 a refusal, else 100 + 17p + b
 unfoldable pub said_by : ℕ → Said
@@ -57,25 +47,30 @@ reason_by c = record { frame = c % 256; length = c / 256 % 256; other = c / 6553
 unfoldable pub refused_by : ℕ → Refusal
 refused_by c = let detail = c / 256 in refusal_by (c % 256) (detail % 256) (reason_by (detail / 256))
 
+-- the answer of a number: what its detail tells where it has no refusal
+unfoldable pub answer_by : {T E : Type 0} → (ℕ → T) → (ℕ → E) → ℕ → Result T E
+answer_by told why c = cond (eqb (c % 256) 0) (Ok (told (c / 256))) (Err (why c))
+
 -- `burrbeech_read_list`: the task count in eight bits of the detail, the policy in the next eight, the version in the next
-unfoldable pub list_read_by : ℕ → ListRead
-list_read_by c =
-    let detail = c / 256 in
-    cond (eqb (c % 256) 0) (Set (detail / 65536 % 256) (detail / 256 % 256) (detail % 256)) (not_read (refused_by c))
+unfoldable pub listed_by : ℕ → ListRead
+listed_by detail = record { version = detail / 65536 % 256; policy = detail / 256 % 256; task_count = detail % 256 }
+
+unfoldable pub list_read_by : ℕ → Result ListRead Refusal
+list_read_by = answer_by listed_by refused_by
 
 -- `burrbeech_write_list`, `burrbeech_convert` and `burrbeech_report`: the bytes written
-unfoldable pub written_by : ℕ → Written
-written_by c = cond (eqb (c % 256) 0) (Bytes (c / 256)) (not_written (refused_by c))
+unfoldable pub written_by : ℕ → Result ℕ Refusal
+written_by = answer_by (λ n. n) refused_by
 
 -- `burrbeech_analyse_sheet` and `burrbeech_analyse_list`: in sixteen bits 0 for holds or 1 + 17p + b, in the next eight the task count
-unfoldable pub verdict_by : ℕ → Outcome
+unfoldable pub verdict_by : ℕ → Verdict
 verdict_by m = cond (eqb m 0) Holds (Missed ((m - 1) / 17) (blocker_by ((m - 1) % 17)))
 
 unfoldable pub analysed_by : ℕ → Decision
-analysed_by detail = record { outcome = verdict_by (detail % 65536); task_count = detail / 65536 % 256 }
+analysed_by detail = record { verdict = verdict_by (detail % 65536); task_count = detail / 65536 % 256 }
 
-unfoldable pub decision_by : ℕ → Decision
-decision_by c = cond (eqb (c % 256) 0) (analysed_by (c / 256)) (refused_decision (refused_by c))
+unfoldable pub decision_by : ℕ → Result Decision Refusal
+decision_by = answer_by analysed_by refused_by
 
 -- `burrbeech_play` and `burrbeech_trace`: the tick in thirty-two bits of the detail, in the next eight the task that misses, 16 where all jobs are done
 unfoldable pub ended_by : ℕ → Played
@@ -88,12 +83,12 @@ ended_by detail =
 unfoldable pub play_refused_by : ℕ → PlayRefusal
 play_refused_by c = cond (eqb (c % 256) 13) Malformed (cond (eqb (c % 256) 14) (Item (c / 256)) (Base (refused_by c)))
 
-unfoldable pub played_by : ℕ → Played
-played_by c = cond (eqb (c % 256) 0) (ended_by (c / 256)) (not_played (play_refused_by c))
+unfoldable pub played_by : ℕ → Result Played PlayRefusal
+played_by = answer_by ended_by play_refused_by
 
 -- `burrbeech_worst_run`: the bytes written, 0 where the set holds
-unfoldable pub script_by : ℕ → Worst
-script_by detail = cond (eqb detail 0) set_holds (script_written detail)
+unfoldable pub script_by : ℕ → Option ℕ
+script_by detail = cond (eqb detail 0) None (Some detail)
 
-unfoldable pub worst_by : ℕ → Worst
-worst_by c = cond (eqb (c % 256) 0) (script_by (c / 256)) (no_script (refused_by c))
+unfoldable pub worst_by : ℕ → Result (Option ℕ) Refusal
+worst_by = answer_by script_by refused_by

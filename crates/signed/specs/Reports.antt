@@ -1,19 +1,15 @@
 -- What we sign for the report: what its first line says, read from its bytes, and what stands in the line of each task.
-use Rattle.std.specs.Prelude.{Bool, true, false, cond, List, [], ◌∷◌, ◌++◌, map, ◌⊎◌, ◌≡◌, ℕ, zero, suc, ◌+◌, ◌-◌, ◌*◌, ◌≤◌, ◌<◌, eqb, length, get_or, take, drop}
+use Rattle.std.specs.Prelude.{Bool, true, false, cond, List, [], ◌∷◌, ◌++◌, map, ◌⊎◌, ◌≡◌, ℕ, zero, suc, ◌+◌, ◌-◌, ◌*◌, ◌≤◌, ◌<◌, eqb, length, get_or, take, drop, Err, None, Ok, Option, Result, Some}
 use Rattle.theory.specs.Tasks.{Task, task_at, frame_count, shortest_deadline}
 use Rattle.theory.specs.Tasks.{Admitted as IsAdmitted}
 use Rattle.theory.specs.Analysis.{lower, blocking}
+use Rattle.sheet.specs.declared.Refusal.{Refusal}
 use Rattle.sheet.specs.declared.Refusal.TheVariants.{Room}
-use Rattle.sheet.specs.declared.Written.{Written}
-use Rattle.sheet.specs.declared.Written.TheVariants.{Bytes, TurnedAway}
 use Rattle.order.specs.Order.{priority_order, ordered_set}
-use Rattle.order.specs.declared.Blocker.{Blocker}
-use Rattle.order.specs.declared.Blocker.TheVariants.{At, Nobody}
 use Rattle.analysis.specs.Times.{number_at}
 use Rattle.analysis.specs.Runs.{place}
 use Rattle.report_text.specs.Words.{holds_word, missed_word, refused_word, decimal, line}
 use Rattle.report_text.specs.Report.{blocker_word}
-use Rattle.report_text.specs.declared.Text.{Text}
 use Rattle.signed.specs.Claims.{Said, holds, missed, refused, NoMiss, SomeMiss, WorstTime, Named}
 
 -- ---- words read from bytes
@@ -39,8 +35,8 @@ unfoldable pub number_in : List ℕ → ℕ
 number_in ds = number_from 0 ds
 
 -- a dash stands for no blocker
-unfoldable pub blocker_in : List ℕ → Blocker
-blocker_in w = cond (eqb (get_or w 0 0) 0x2D) Nobody (At (number_in w))
+unfoldable pub blocker_in : List ℕ → Option ℕ
+blocker_in w = cond (eqb (get_or w 0 0) 0x2D) None (Some (number_in w))
 
 -- what the words of a first line say: `holds` begins with h, `missed` with m
 unfoldable pub said_in : List (List ℕ) → Said
@@ -89,10 +85,6 @@ pub record Lines (n : ℕ) (Words : ℕ → List (List ℕ) → Type 0) (text : 
   pub whole : text ≡ line (words_in text) ++ lines words 0 n
   pub each : (q : ℕ) → q < n → Words q (words q)
 
--- the bytes of a report that are its text
-unfoldable pub text_in : Text → List ℕ
-text_in t = take t.length t.bytes
-
 -- What we sign for a report on these tasks, by what its first line says: the words of that line, and the line of each task.
 unfoldable pub ReportSigned : ℕ → List Task → List ℕ → Said → Type 0
 ReportSigned policy tasks text holds =
@@ -109,11 +101,11 @@ ReportSigned policy tasks text (refused number) = (1 ≤ number) × (number ≤ 
 
 -- And for its text in lent bytes: it stands there, as long as it is said to be and within the room, and the bytes behind it are as they were; or there
 -- is no room, and nothing has changed.
-unfoldable pub ReportLeft : ℕ → List Task → (before after : List ℕ) → Written → Type 0
-ReportLeft policy tasks before after (Bytes n) =
+unfoldable pub ReportLeft : ℕ → List Task → (before after : List ℕ) → Result ℕ Refusal → Type 0
+ReportLeft policy tasks before after (Ok n) =
     ReportSigned policy tasks (take n after) (said_in (words_in (take n after)))
     × (n ≤ length before)
     × (length after ≡ length before)
     × (drop n after ≡ drop n before)
     × (n ≤ 2048)
-ReportLeft policy tasks before after (TurnedAway why) = (why ≡ Room) × (after ≡ before)
+ReportLeft policy tasks before after (Err why) = (why ≡ Room) × (after ≡ before)

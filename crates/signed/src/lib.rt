@@ -6,27 +6,26 @@ ghost use Rattle.std.specs.Prelude.{map, take};
 ghost use Rattle.sheet.specs.Tasks.{task_in};
 ghost use Rattle.sheet.specs.Reading.{policy_of, tasks_of};
 ghost use Rattle.signed.specs.Calls.{ReadList, ReadListC, WriteList, WriteListC, AnalyseList, AnalyseListC};
-ghost use Rattle.signed.specs.Claims.{in_numbers, in_bytes, Signed, OutcomeSigned};
+ghost use Rattle.signed.specs.Claims.{in_numbers, in_bytes, outcome_told, Signed, OutcomeSigned};
 ghost use Rattle.signed.specs.Numbers.{said_by, written_by, decision_by, played_by, worst_by};
 ghost use Rattle.signed.specs.Plays.{PlaySigned, TraceSigned};
 ghost use Rattle.signed.specs.WorstRuns.{WorstSigned};
 ghost use Rattle.signed.specs.Conversions.{ConvertSigned};
-ghost use Rattle.signed.specs.Reports.{words_in, said_in, text_in, ReportSigned, ReportLeft};
+ghost use Rattle.signed.specs.Reports.{words_in, said_in, ReportSigned, ReportLeft};
 
 use analysis::Decision;
 use lists::ListRead;
-use player::Played;
+use player::{PlayRefusal, Played};
 use report_text::Text;
-use sheet::{Sheet, Task, TaskSet, Written};
-use worst::Worst;
+use sheet::{Refusal, Sheet, Task, TaskSet};
 
 fn analyse_set(
     policy: u32,
     count: u32,
     tasks: [Task; Sheet::TASK_ROOM],
     times: &mut [u32],
-) -> Decision
-    ensures { OutcomeSigned policy (map task_in (take count tasks)) in_numbers times.old times.new result.outcome }
+) -> Result<Decision, Refusal>
+    ensures { OutcomeSigned policy (map task_in (take count tasks)) in_numbers times.old times.new (outcome_told result) }
 {
     let set = TaskSet {
         policy,
@@ -36,8 +35,8 @@ fn analyse_set(
     analysis::analyse_set(set, times)
 }
 
-fn analyse_sheet(bytes: &[u8], times: &mut [u32]) -> Decision
-    ensures { OutcomeSigned (policy_of bytes.now) (tasks_of bytes.now) in_numbers times.old times.new result.outcome }
+fn analyse_sheet(bytes: &[u8], times: &mut [u32]) -> Result<Decision, Refusal>
+    ensures { OutcomeSigned (policy_of bytes.now) (tasks_of bytes.now) in_numbers times.old times.new (outcome_told result) }
 {
     analysis::analyse_sheet(bytes, times)
 }
@@ -49,12 +48,12 @@ fn check_sheet(sheet: &[u8], times: &mut [u8]) -> u32
 }
 
 fn analyse_sheet_from_c(sheet: &[u8], times: &mut [u32]) -> u64
-    ensures { OutcomeSigned (policy_of sheet.now) (tasks_of sheet.now) in_numbers times.old times.new (decision_by result).outcome }
+    ensures { OutcomeSigned (policy_of sheet.now) (tasks_of sheet.now) in_numbers times.old times.new (outcome_told (decision_by result)) }
 {
     workbench::burrbeech_analyse_sheet(sheet, times)
 }
 
-fn write_report(sheet: &[u8], text: &mut [u8]) -> Written
+fn write_report(sheet: &[u8], text: &mut [u8]) -> Result<usize, Refusal>
     ensures { ReportLeft (policy_of sheet.now) (tasks_of sheet.now) text.old text.new result }
 {
     report_text::write_report(sheet, text)
@@ -67,12 +66,12 @@ fn report_from_c(sheet: &[u8], text: &mut [u8]) -> u64
 }
 
 fn report_text(sheet: &[u8]) -> Text
-    ensures { ReportSigned (policy_of sheet.now) (tasks_of sheet.now) (text_in result) (said_in (words_in (text_in result))) }
+    ensures { ReportSigned (policy_of sheet.now) (tasks_of sheet.now) result.items (said_in (words_in result.items)) }
 {
     report_text::report_text(sheet)
 }
 
-fn read_list(sheet: &[u8], list: &mut [Task]) -> ListRead
+fn read_list(sheet: &[u8], list: &mut [Task]) -> Result<ListRead, Refusal>
     ensures { ReadList sheet.now list.old result list.new }
 {
     lists::read_list(sheet, list)
@@ -84,7 +83,7 @@ fn read_list_from_c(sheet: &[u8], list: &mut [Task]) -> u64
     workbench::burrbeech_read_list(sheet, list)
 }
 
-fn write_list(version: u32, policy: u32, list: &[Task], sheet: &mut [u8]) -> Written
+fn write_list(version: u32, policy: u32, list: &[Task], sheet: &mut [u8]) -> Result<usize, Refusal>
     ensures { WriteList version policy list.now sheet.old result sheet.new }
 {
     lists::write_list(version, policy, list, sheet)
@@ -96,7 +95,7 @@ fn write_list_from_c(version: u32, policy: u32, list: &[Task], sheet: &mut [u8])
     workbench::burrbeech_write_list(version, policy, list, sheet)
 }
 
-fn convert(version: u32, sheet: &[u8], out: &mut [u8]) -> Written
+fn convert(version: u32, sheet: &[u8], out: &mut [u8]) -> Result<usize, Refusal>
     ensures { ConvertSigned version sheet.now out.old result out.new }
 {
     converter::convert(version, sheet, out)
@@ -108,7 +107,7 @@ fn convert_from_c(version: u32, sheet: &[u8], out: &mut [u8]) -> u64
     workbench::burrbeech_convert(version, sheet, out)
 }
 
-fn analyse_list(policy: u32, list: &[Task], times: &mut [u32]) -> Decision
+fn analyse_list(policy: u32, list: &[Task], times: &mut [u32]) -> Result<Decision, Refusal>
     ensures { AnalyseList policy list.now times.old result times.new }
 {
     lists::analyse_list(policy, list, times)
@@ -120,13 +119,13 @@ fn analyse_list_from_c(policy: u32, list: &[Task], times: &mut [u32]) -> u64
     workbench::burrbeech_analyse_list(policy, list, times)
 }
 
-fn play(sheet: &[u8], script: &[u8]) -> Played
+fn play(sheet: &[u8], script: &[u8]) -> Result<Played, PlayRefusal>
     ensures { PlaySigned sheet.now script.now result }
 {
     player::play(sheet, script)
 }
 
-fn trace(sheet: &[u8], script: &[u8], ticks: &mut [u8]) -> Played
+fn trace(sheet: &[u8], script: &[u8], ticks: &mut [u8]) -> Result<Played, PlayRefusal>
     ensures { TraceSigned sheet.now script.now ticks.old result ticks.new }
 {
     player::trace(sheet, script, ticks)
@@ -144,7 +143,7 @@ fn trace_from_c(sheet: &[u8], script: &[u8], ticks: &mut [u8]) -> u64
     workbench::burrbeech_trace(sheet, script, ticks)
 }
 
-fn worst_run(sheet: &[u8], script: &mut [u8]) -> Worst
+fn worst_run(sheet: &[u8], script: &mut [u8]) -> Result<Option<usize>, Refusal>
     ensures { WorstSigned sheet.now script.old result script.new }
 {
     worst::worst_run(sheet, script)

@@ -1,8 +1,8 @@
 -- What a task releases in a window: at most ⌈x/T⌉ jobs in x ticks, with consecutive frames from the one that is next at the window's start.
+use Rattle.std.specs.Prelude.{None, Option, Some}
 use mathlib.Core.Bool.{Bool}
 use mathlib.Core.List.{List, Memᴰ}
 use mathlib.Core.Logic.{◌⊎◌, inl, inr}
-use mathlib.Core.Option.{Option, none, some}
 use mathlib.Core.Path.{◌≡◌, refl, sym, ◌∙◌, subst}
 use Prim.Native.Nat.{ℕ, zero, suc, ◌+◌, ◌*◌, ◌%◌, ◌≤◌, ◌<◌}
 use native.Mathlib.Decide.{le_ind}
@@ -60,17 +60,17 @@ in_its_turn {task} {a} {n = n} {t = t} {l = l} s h free = go n s.spaced
     go zero sp = rw (zero-mul task.period) (omega arith)
     go (suc m) sp = le_trans (sp (omega arith)) free
 
-since_some : {task : Task} {a k n t : ℕ} {l : Lane} (w : ℕ) → Since task a k n t l → a ≤ t → l.free_from ≤ t → Since task a k (suc n) (suc t) (release_lane task t (some w) l)
+since_some : {task : Task} {a k n t : ℕ} {l : Lane} (w : ℕ) → Since task a k n t l → a ≤ t → l.free_from ≤ t → Since task a k (suc n) (suc t) (release_lane task t (Some w) l)
 unfolding release_lane
 since_some {task} {a} {k} {n} {t} {l} w s h free =
     record {
       next_is = next_frame_after task k n s.next_is;
       spaced = λ _. omega (arith, suc-mul n task.period, in_its_turn s h free);
       recent = λ j u. omega (arith, mul-le-mul_right {m = j} {n = n} task.period (omega arith), in_its_turn s h free);
-      unfinished = λ r f v m. go r f (release_mem task t (some w) l m) (s.unfinished r f v);
+      unfinished = λ r f v m. go r f (release_mem task t (Some w) l m) (s.unfinished r f v);
     }
   where
-    go : (r f : ℕ) {v : ℕ} → Memᴰ (job r f (suc v)) l.jobs ⊎ ((r ≡ t) × (f ≡ l.next) × (some w ≡ some (suc v)))
+    go : (r f : ℕ) {v : ℕ} → Memᴰ (job r f (suc v)) l.jobs ⊎ ((r ≡ t) × (f ≡ l.next) × (Some w ≡ Some (suc v)))
         → (Memᴰ (job r f (suc v)) l.jobs → (j : ℕ) × (j < n) × (f ≡ (k + j) % frame_count task) × (a + j * task.period ≤ r))
         → (j : ℕ) × (j < suc n) × (f ≡ (k + j) % frame_count task) × (a + j * task.period ≤ r)
     go r f (inl m) before = let (j, u, e, p) = before m in (j, omega arith, e, p)
@@ -85,8 +85,8 @@ pub record Released (set : List Task) (run : Run) (q a t n : ℕ) : Type 0 where
 
 release_next_in : (task : Task) (t : ℕ) (o : Option ℕ) (l : Lane) → l.next < frame_count task → (release_lane task t o l).next < frame_count task
 unfolding release_lane
-release_next_in task t none l h = h
-release_next_in task t (some w) l h = next_frame_lt task l.next (omega arith)
+release_next_in task t None l h = h
+release_next_in task t (Some w) l h = next_frame_lt task l.next (omega arith)
 
 module _ (set : List Task) (run : Run) (legal : Legal set run) (q : ℕ) (in_set : q < length set) where
   -- the frame of the next job is a frame
@@ -105,8 +105,8 @@ module _ (set : List Task) (run : Run) (legal : Legal set run) (q : ℕ) (in_set
         → (m : ℕ) × (Since (task_at set q) a first_next m (suc t) (release_lane (task_at set q) t o ((state_at set run t).lanes q))
         × (arrived run q t + given o ≤ arrived run q a + work (task_at set q) first_next m))
     unfolding given release_lane first_next
-    released_one t n h k r none e = (n, (since_none r.since, omega (arith, r.work_at_most)))
-    released_one t n h k r (some w) e = (
+    released_one t n h k r None e = (n, (since_none r.since, omega (arith, r.work_at_most)))
+    released_one t n h k r (Some w) e = (
       suc n,
       (
         since_some w r.since h ((legal.each_tick t k).apart q w in_set e),

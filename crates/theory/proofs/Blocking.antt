@@ -1,7 +1,7 @@
 -- Laws of blocking and of the blocker: no lower Q is more than blocking + 1, and the blocker is the first lower task that has it.
+use Rattle.std.specs.Prelude.{None, Some}
 use mathlib.Core.Bool.{Bool, true, false, ◌&&◌, So, and-eq-true_iff, true≢false}
 use mathlib.Core.List.{List, [], ◌∷◌, map}
-use mathlib.Core.Option.{none, some}
 use mathlib.Core.Path.{◌≡◌, sym, ◌∙◌, ap}
 use Prim.Native.Nat.{ℕ, suc, ◌+◌, ◌-◌, ◌≤◌, ◌<◌, max}
 use native.Mathlib.Decide.{dec_le}
@@ -65,7 +65,7 @@ module _ (set : List Task) (p : ℕ) where
   unfolding may_block
   may_block_yes q two most = (and-eq-true_iff _ _).1 (le-leb _ _ two, le-leb _ _ most)
 
-  pub blocker_is : {b : ℕ} → blocker set p ≡ some b → IsBlocker b
+  pub blocker_is : {b : ℕ} → blocker set p ≡ Some b → IsBlocker b
   unfolding blocker may_block
   blocker_is {b} e =
       let f : IsFirst (suc p) (length set - suc p) may_block b = first_some (suc p) (length set - suc p) may_block e in
@@ -87,7 +87,7 @@ module _ (set : List Task) (p : ℕ) where
           absurd (true≢false (sym (may_block_yes q (omega (arith, lower_lock b (omega arith))) h) ∙ x))
 
   -- without a blocker there is no blocking
-  pub no_blocker : blocker set p ≡ none → blocking (lower set p) ≡ 0
+  pub no_blocker : blocker set p ≡ None → blocking (lower set p) ≡ 0
   unfolding blocker may_block blocking
   no_blocker e = go (dec_le 2 (largest_lock (lower set p)))
     where
@@ -98,25 +98,25 @@ module _ (set : List Task) (p : ℕ) where
           absurd (true≢false (sym (may_block_yes q (omega arith) (omega arith)) ∙ first_none (suc p) (length set - suc p) may_block e q l (omega arith)))
 
   -- with one, blocking is its Q less 1
-  pub blocker_blocks : {b : ℕ} → blocker set p ≡ some b → (task_at set b).lock ≡ suc (blocking (lower set p))
+  pub blocker_blocks : {b : ℕ} → blocker set p ≡ Some b → (task_at set b).lock ≡ suc (blocking (lower set p))
   unfolding blocking
   blocker_blocks e = let b : IsBlocker _ = blocker_is e in omega (arith, b.has_largest, b.locks)
 
   blocker_no_later : {b c : ℕ} → IsBlocker b → IsBlocker c → b ≤ c
   blocker_no_later {b} {c} i j = let not_later : ¬ (c < b) = λ l. omega (arith, i.is_first c j.below l, j.has_largest) in omega arith
 
-  pub blocker_when : {b : ℕ} → IsBlocker b → blocker set p ≡ some b
+  pub blocker_when : {b : ℕ} → IsBlocker b → blocker set p ≡ Some b
   unfolding blocking
   blocker_when {b} i = go (answer (blocker set p))
     where
-      go : Answer (blocker set p) → blocker set p ≡ some b
+      go : Answer (blocker set p) → blocker set p ≡ Some b
       go (nothing e) = let z : ⊥ = omega (arith, no_blocker e, i.has_largest, i.locks) in absurd z
-      go (it_is c e) = e ∙ ap some (le_antisymm (blocker_no_later (blocker_is e) i) (blocker_no_later i (blocker_is e)))
+      go (it_is c e) = e ∙ ap Some (le_antisymm (blocker_no_later (blocker_is e) i) (blocker_no_later i (blocker_is e)))
 
-  pub no_blocker_when : largest_lock (lower set p) ≤ 1 → blocker set p ≡ none
+  pub no_blocker_when : largest_lock (lower set p) ≤ 1 → blocker set p ≡ None
   no_blocker_when h = go (answer (blocker set p))
     where
-      go : Answer (blocker set p) → blocker set p ≡ none
+      go : Answer (blocker set p) → blocker set p ≡ None
       go (nothing e) = e
       go (it_is c e) = let b : IsBlocker c = blocker_is e in let z : ⊥ = omega (arith, b.has_largest, b.locks) in absurd z
 

@@ -1,8 +1,8 @@
 -- Some small sets and their runs, by computation: worst runs played, each run rule kept and broken. The scope's own sets are the table of crates/cases.
+use Rattle.std.specs.Prelude.{None, Option, Some}
 use mathlib.Core.Bool.{true, false, ◌&&◌}
 use mathlib.Core.List.Memᴰ
 use mathlib.Core.List.{List, [], ◌∷◌, map}
-use mathlib.Core.Option.{Option, none, some}
 use mathlib.Core.Path.{◌≡◌, refl}
 use Prim.Native.Nat.{ℕ, zero, suc, ◌≤◌, ◌<◌}
 use native.Mathlib.Omega.{arith}
@@ -48,7 +48,7 @@ locking Q = with_deadline 6 4 0 (2 ∷ []) ∷ with_deadline 9 9 Q (4 ∷ []) �
 abbrev short_lock : List Task
 short_lock = locking 3
 
-short_lock_is : (verdict short_lock ≡ holds) × (row (λ p. response_of short_lock p 0) 0 2 ≡ some 4 ∷ some 6 ∷ []) × (blocker short_lock 0 ≡ some 1)
+short_lock_is : (verdict short_lock ≡ holds) × (row (λ p. response_of short_lock p 0) 0 2 ≡ Some 4 ∷ Some 6 ∷ []) × (blocker short_lock 0 ≡ Some 1)
 unfolding analysis
 short_lock_is = (refl, refl, refl)
 
@@ -60,7 +60,7 @@ short_lock_admitted = (admitted_is short_lock).0 refl
 abbrev long_lock : List Task
 long_lock = locking 4
 
-long_lock_is : (verdict long_lock ≡ missed 0 (some 1)) × (row (λ p. response_of long_lock p 0) 0 2 ≡ none ∷ some 6 ∷ [])
+long_lock_is : (verdict long_lock ≡ missed 0 (Some 1)) × (row (λ p. response_of long_lock p 0) 0 2 ≡ None ∷ Some 6 ∷ [])
 unfolding analysis
 long_lock_is = (refl, refl)
 
@@ -68,12 +68,12 @@ long_lock_is = (refl, refl)
 abbrev later_start : List Task
 later_start = plain (2 ∷ 1 ∷ 2 ∷ []) 3 ∷ plain (2 ∷ []) 9 ∷ []
 
-later_start_is : (start_frame (task_at later_start 0) ≡ 2) × (largest_frame (task_at later_start 0) ≡ 0) × (response_of later_start 1 0 ≡ some 6)
+later_start_is : (start_frame (task_at later_start 0) ≡ 2) × (largest_frame (task_at later_start 0) ≡ 0) × (response_of later_start 1 0 ≡ Some 6)
 unfolding analysis
 later_start_is = (refl, refl, refl)
 
 -- two frames from that largest frame make 3 and from frame 2 make 4, and yet there is a start
-later_start_exceeded : (exceeded (task_at later_start 0) 0 ≡ some 2) × (exceeding (task_at later_start 0) 0 2 ≡ some 2)
+later_start_exceeded : (exceeded (task_at later_start 0) 0 ≡ Some 2) × (exceeding (task_at later_start 0) 0 2 ≡ Some 2)
 unfolding analysis exceeds exceeding exceeded
 later_start_exceeded = (refl, refl)
 
@@ -164,8 +164,8 @@ data Entry : Type 0 where
   locks : (tick length : ℕ) → Entry
 
 script_release : List Entry → ℕ → ℕ → Option ℕ
-script_release [] now p = none
-script_release (gives t q w ∷ es) now p = elim (eqb t now && eqb q p) [ true ↦ some w | false ↦ script_release es now p ]
+script_release [] now p = None
+script_release (gives t q w ∷ es) now p = elim (eqb t now && eqb q p) [ true ↦ Some w | false ↦ script_release es now p ]
 script_release (locks t n ∷ es) now p = script_release es now p
 
 script_stretch : List Entry → ℕ → ℕ
@@ -189,7 +189,7 @@ locked_legal : Legal short_lock locked
 unfolding scripts locked
 locked_legal = (legal_is short_lock locked).0 refl
 
-locked_picks : row (λ t. pick short_lock (seen_at short_lock locked t)) 0 5 ≡ some 1 ∷ some 1 ∷ some 1 ∷ some 0 ∷ some 0 ∷ []
+locked_picks : row (λ t. pick short_lock (seen_at short_lock locked t)) 0 5 ≡ Some 1 ∷ Some 1 ∷ Some 1 ∷ Some 0 ∷ Some 0 ∷ []
 unfolding scripts locked
 locked_picks = refl
 
@@ -201,7 +201,7 @@ short_locked_legal : Legal short_lock short_locked
 unfolding scripts short_locked
 short_locked_legal = (legal_is short_lock short_locked).0 refl
 
-short_locked_picks : row (λ t. pick short_lock (seen_at short_lock short_locked t)) 0 5 ≡ some 1 ∷ some 1 ∷ some 0 ∷ some 0 ∷ none ∷ []
+short_locked_picks : row (λ t. pick short_lock (seen_at short_lock short_locked t)) 0 5 ≡ Some 1 ∷ Some 1 ∷ Some 0 ∷ Some 0 ∷ None ∷ []
 unfolding scripts short_locked
 short_locked_picks = refl
 

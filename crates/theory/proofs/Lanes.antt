@@ -1,9 +1,9 @@
 -- Laws of one lane: the work pending in it, what a release and a tick do to it, and what holds of its jobs that are not complete.
+use Rattle.std.specs.Prelude.{None, Option, Some}
 use mathlib.Core.Bool.{Bool, true, false}
 use mathlib.Core.List.Memᴰ
 use mathlib.Core.List.{List, [], ◌∷◌, ◌++◌, Memᴰ}
 use mathlib.Core.Logic.{◌⊎◌, inl, inr}
-use mathlib.Core.Option.{Option, none, some}
 use mathlib.Core.Path.{◌≡◌, refl, sym, ◌∙◌, ap}
 use Prim.Native.Nat.{ℕ, zero, suc, pred, ◌+◌, ◌≤◌}
 use native.Mathlib.Nat.{le_refl, add-zero, zero-add}
@@ -19,14 +19,14 @@ total (job r k w ∷ js) = w + total js
 
 -- the work of a release
 unfoldable pub given : Option ℕ → ℕ
-given none = 0
-given (some w) = w
+given None = 0
+given (Some w) = w
 
-pub given_none : given none ≡ 0
+pub given_none : given None ≡ 0
 unfolding given
 given_none = refl
 
-pub given_some : (w : ℕ) → given (some w) ≡ w
+pub given_some : (w : ℕ) → given (Some w) ≡ w
 unfolding given
 given_some w = refl
 
@@ -119,28 +119,28 @@ pending_yes l e = ltb-true _ _ e
 
 pub pending_no : (l : Lane) → pending l ≡ false → oldest_left l.jobs ≡ 0
 unfolding pending
-pending_no l e = let none : oldest_left l.jobs ≤ 0 = ltb-false _ _ e in omega arith
+pending_no l e = let None : oldest_left l.jobs ≤ 0 = ltb-false _ _ e in omega arith
 
 module _ (t : Task) (now : ℕ) where
   pub release_total : (o : Option ℕ) (l : Lane) → total (release_lane t now o l).jobs ≡ total l.jobs + given o
   unfolding release_lane given
-  release_total none l = sym (add-zero _)
-  release_total (some w) l = total_append l.jobs now l.next w
+  release_total None l = sym (add-zero _)
+  release_total (Some w) l = total_append l.jobs now l.next w
 
   pub release_oldest : (o : Option ℕ) (l : Lane) → 1 ≤ oldest_left l.jobs → oldest_left (release_lane t now o l).jobs ≡ oldest_left l.jobs
   unfolding release_lane
-  release_oldest none l h = refl
-  release_oldest (some w) l h = append_oldest l.jobs _ h
+  release_oldest None l h = refl
+  release_oldest (Some w) l h = append_oldest l.jobs _ h
 
   -- a job in a lane with the release seen was there before, or is the one released
   pub release_mem : (o : Option ℕ) (l : Lane) {r k w : ℕ} → Memᴰ (job r k w) (release_lane t now o l).jobs
-      → Memᴰ (job r k w) l.jobs ⊎ ((r ≡ now) × (k ≡ l.next) × (o ≡ some w))
+      → Memᴰ (job r k w) l.jobs ⊎ ((r ≡ now) × (k ≡ l.next) × (o ≡ Some w))
   unfolding release_lane
-  release_mem none l m = inl m
-  release_mem (some v) l {r} {k} {w} m = go (Memᴰ.append_cases l.jobs m)
+  release_mem None l m = inl m
+  release_mem (Some v) l {r} {k} {w} m = go (Memᴰ.append_cases l.jobs m)
     where
       go : Memᴰ (job r k w) l.jobs ⊎ Memᴰ (job r k w) (job now l.next v ∷ [])
-          → Memᴰ (job r k w) l.jobs ⊎ ((r ≡ now) × (k ≡ l.next) × (some v ≡ some w))
+          → Memᴰ (job r k w) l.jobs ⊎ ((r ≡ now) × (k ≡ l.next) × (Some v ≡ Some w))
       go (inl m) = inl m
       go (inr m) = let e : job r k w ≡ job now l.next v = Memᴰ.eq_of_singleton m in inr (cc, cc, cc)
 

@@ -1,4 +1,5 @@
 -- The theorems are in Theorems, the laws that other crates cite in Laws, runs played by computation in Examples; the rest stands below these.
+pub mod Options
 pub mod Search
 pub mod Work
 pub mod Reason

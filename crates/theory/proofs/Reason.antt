@@ -1,7 +1,7 @@
 -- Why a task has no start: where no frame qualifies there is a reason, and only one.
+use Rattle.std.specs.Prelude.{None, Some, unwrap_or}
 use mathlib.Core.Bool.{Bool, false}
 use mathlib.Core.Logic.{◌↔◌}
-use mathlib.Core.Option.{none, some, get_or}
 use mathlib.Core.Path.{◌≡◌, refl}
 use Prim.Native.Nat.{ℕ, zero, suc, ◌+◌, ◌≤◌, ◌<◌}
 use native.Mathlib.Decide.{dec_le}
@@ -19,7 +19,7 @@ module _ (t : Task) where
   -- ---- a frame that another exceeds
 
   -- no frame has a greater sum of n frames than frame s
-  none_exceeds : (s n : ℕ) → exceeding t s n ≡ none → (k : ℕ) → k < frame_count t → work t k n ≤ work t s n
+  none_exceeds : (s n : ℕ) → exceeding t s n ≡ None → (k : ℕ) → k < frame_count t → work t k n ≤ work t s n
   unfolding exceeding exceeds
   none_exceeds s n e k h = ltb-false _ _ (first_none 0 (frame_count t) (exceeds t s n) e k (omega arith) (omega arith))
 
@@ -29,7 +29,7 @@ module _ (t : Task) where
     exceeds_it : work t s n < work t k n
     lowest : (j : ℕ) → j < k → work t j n ≤ work t s n
 
-  some_exceeds : (s n k : ℕ) → exceeding t s n ≡ some k → Exceeding s n k
+  some_exceeds : (s n k : ℕ) → exceeding t s n ≡ Some k → Exceeding s n k
   unfolding exceeding exceeds
   some_exceeds s n k e =
       let f : IsFirst 0 (frame_count t) (exceeds t s n) k = first_some 0 (frame_count t) (exceeds t s n) e in
@@ -49,7 +49,7 @@ module _ (t : Task) where
   not_at : (s n : ℕ) → exceeded_at s n ≡ false → (k : ℕ) → k < frame_count t → work t k n ≤ work t s n
   not_at s n e = none_exceeds s n (found_none e)
 
-  pub exceeded_test : (s : ℕ) → (exceeded t s ≡ none) ↔ Qualifies t s
+  pub exceeded_test : (s : ℕ) → (exceeded t s ≡ None) ↔ Qualifies t s
   unfolding exceeded exceeding exceeds Qualifies
   exceeded_test s = (
     λ e n k l h k_in. not_at s n (first_none 1 (frame_count t) (exceeded_at s) e n l (omega arith)) k k_in,
@@ -64,7 +64,7 @@ module _ (t : Task) where
   no_shorter s n h zero j l j_in = rw (work_zero t j, work_zero t s) (le_refl 0)
   no_shorter s n h (suc m) j l j_in = not_at s (suc m) (h (suc m) (omega arith) l) j j_in
 
-  some_reason : 1 ≤ frame_count t → (n : ℕ) → exceeded t (largest_frame t) ≡ some n → IsReason t (largest_frame t) (exceeded_length t) (exceeding_frame t)
+  some_reason : 1 ≤ frame_count t → (n : ℕ) → exceeded t (largest_frame t) ≡ Some n → IsReason t (largest_frame t) (exceeded_length t) (exceeding_frame t)
   unfolding exceeded exceeded_length exceeding_frame
   some_reason has n e =
       let s = largest_frame t in
@@ -166,9 +166,9 @@ module _ (t : Task) where
     found_within 0 (frame_count t) (exceeds t (largest_frame t) (exceeded_length t)) (lit≤ tt),
   )
     where
-      found_within : (a n : ℕ) (test : ℕ → Bool) → a ≤ 1 → get_or (first a n test) 0 ≤ n
+      found_within : (a n : ℕ) (test : ℕ → Bool) → a ≤ 1 → unwrap_or (first a n test) 0 ≤ n
       found_within a n test few = go (answer (first a n test))
         where
-          go : Answer (first a n test) → get_or (first a n test) 0 ≤ n
+          go : Answer (first a n test) → unwrap_or (first a n test) 0 ≤ n
           go (nothing e) = rw e (omega arith)
           go (it_is j e) = rw e (omega (arith, (first_some a n test e).before))

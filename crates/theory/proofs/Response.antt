@@ -1,7 +1,7 @@
 -- Laws of the response time: unique, computed by the search, no later for less demand; and the completion-time iteration, which reaches it.
+use Rattle.std.specs.Prelude.{None, Some}
 use mathlib.Core.Bool.{Bool}
 use mathlib.Core.Logic.{◌↔◌, ◌⊎◌, inl, inr}
-use mathlib.Core.Option.{none, some}
 use mathlib.Core.Path.{◌≡◌, ◌∙◌}
 use Prim.Native.Nat.{ℕ, zero, suc, ◌≤◌, ◌<◌}
 use native.Mathlib.Decide.{dec_le, ℕ_discrete}
@@ -29,11 +29,11 @@ module _ (f : ℕ → ℕ) (D : ℕ) where
   enough_at t = leb (f t) t
 
   -- the computed response time is the response time
-  pub response_is : {t : ℕ} → (response f D ≡ some t) ↔ IsResponse f D t
+  pub response_is : {t : ℕ} → (response f D ≡ Some t) ↔ IsResponse f D t
   unfolding response enough_at
   response_is {t} = (there, back)
     where
-      there : response f D ≡ some t → IsResponse f D t
+      there : response f D ≡ Some t → IsResponse f D t
       there e =
           let i : IsFirst 1 D enough_at t = first_some 1 D enough_at e in
           record {
@@ -43,7 +43,7 @@ module _ (f : ℕ → ℕ) (D : ℕ) where
             least = λ u l k. leb-false _ _ (i.earlier u l k);
           }
 
-      back : IsResponse f D t → response f D ≡ some t
+      back : IsResponse f D t → response f D ≡ Some t
       back r =
           first_is 1 D enough_at
           (record {
@@ -54,7 +54,7 @@ module _ (f : ℕ → ℕ) (D : ℕ) where
           })
 
   -- there is none exactly if at every time up to D the demand is more
-  pub no_response_is : (response f D ≡ none) ↔ ((t : ℕ) → 1 ≤ t → t ≤ D → t < f t)
+  pub no_response_is : (response f D ≡ None) ↔ ((t : ℕ) → 1 ≤ t → t ≤ D → t < f t)
   unfolding response enough_at
   no_response_is = (
     λ e t l h. leb-false _ _ (first_none 1 D enough_at e t l (omega arith)),
@@ -168,5 +168,5 @@ more_below_round {f} {x} mono below u l h = go (dec_le x u)
 pub more_below_is : {f : ℕ → ℕ} {D x : ℕ} → MoreBelow f x → 1 ≤ x → x ≤ D → f x ≤ x → IsResponse f D x
 more_below_is below l h e = record { positive = l; within = h; enough = e; least = below }
 
-pub more_below_none : (f : ℕ → ℕ) (D : ℕ) {x : ℕ} → MoreBelow f x → D < x → response f D ≡ none
+pub more_below_none : (f : ℕ → ℕ) (D : ℕ) {x : ℕ} → MoreBelow f x → D < x → response f D ≡ None
 more_below_none f D below h = (no_response_is f D).1 (λ t l k. below t l (omega arith))

@@ -1,7 +1,8 @@
 -- What `first`, `every` and `found` say: the first number of a row that passes a test, and that all of them do.
+use Rattle.std.specs.Prelude.{None, Option, Some}
 use mathlib.Core.Bool.{Bool, true, false, true≢false, false≢true}
 use mathlib.Core.Logic.{◌⊎◌, inl, inr}
-use mathlib.Core.Option.{Option, none, some, none-ne-some}
+use Rattle.theory.proofs.Options.{none_ne_some}
 use mathlib.Core.Path.{◌≡◌, refl, sym, ◌∙◌}
 use Prim.Native.Nat.{ℕ, zero, suc, ◌+◌, ◌≤◌, ◌<◌}
 use native.Mathlib.Decide.{ℕ_discrete}
@@ -16,15 +17,15 @@ bool_cases false = inr refl
 
 -- an answer is one of two, with the equation
 pub data Answer (o : Option ℕ) : Type 0 where
-  nothing : o ≡ none → Answer o
-  it_is : (n : ℕ) → o ≡ some n → Answer o
+  nothing : o ≡ None → Answer o
+  it_is : (n : ℕ) → o ≡ Some n → Answer o
 
 pub answer : (o : Option ℕ) → Answer o
-answer none = nothing refl
-answer (some n) = it_is n refl
+answer None = nothing refl
+answer (Some n) = it_is n refl
 
 module _ (a n : ℕ) (test : ℕ → Bool) where
-  first_yes : test a ≡ true → first a (suc n) test ≡ some a
+  first_yes : test a ≡ true → first a (suc n) test ≡ Some a
   unfolding first
   first_yes e = rw (e, first)
 
@@ -40,7 +41,7 @@ module _ (a n : ℕ) (test : ℕ → Bool) where
   unfolding every
   every_no e = rw (e, every)
 
-first_zero : (a : ℕ) (test : ℕ → Bool) → first a 0 test ≡ none
+first_zero : (a : ℕ) (test : ℕ → Bool) → first a 0 test ≡ None
 unfolding first
 first_zero a test = refl
 
@@ -63,24 +64,24 @@ split_row a u h = go (ℕ_discrete u a)
     go (yes e) = inl e
     go (no ne) = inr (omega arith)
 
-pub first_none : (a n : ℕ) (test : ℕ → Bool) → first a n test ≡ none → (u : ℕ) → a ≤ u → u < a + n → test u ≡ false
+pub first_none : (a n : ℕ) (test : ℕ → Bool) → first a n test ≡ None → (u : ℕ) → a ≤ u → u < a + n → test u ≡ false
 first_none a zero test e u h k = let z : ⊥ = omega arith in absurd z
 first_none a (suc n) test e u h k = go (bool_cases (test a)) (split_row a u h) (first_none (suc a) n test)
   where
     go : (test a ≡ true) ⊎ (test a ≡ false) → (u ≡ a) ⊎ (suc a ≤ u)
-        → (first (suc a) n test ≡ none → (v : ℕ) → suc a ≤ v → v < suc a + n → test v ≡ false) → test u ≡ false
-    go (inl y) s later = absurd (none-ne-some a (sym e ∙ first_yes a n test y))
+        → (first (suc a) n test ≡ None → (v : ℕ) → suc a ≤ v → v < suc a + n → test v ≡ false) → test u ≡ false
+    go (inl y) s later = absurd (none_ne_some a (sym e ∙ first_yes a n test y))
     go (inr x) (inl q) later = rw q x
     go (inr x) (inr l) later = later (cc (first_no a n test x)) u l (omega arith)
 
-pub first_some : (a n : ℕ) (test : ℕ → Bool) {j : ℕ} → first a n test ≡ some j → IsFirst a n test j
-first_some a zero test {j} e = absurd (none-ne-some j (sym (first_zero a test) ∙ e))
+pub first_some : (a n : ℕ) (test : ℕ → Bool) {j : ℕ} → first a n test ≡ Some j → IsFirst a n test j
+first_some a zero test {j} e = absurd (none_ne_some j (sym (first_zero a test) ∙ e))
 first_some a (suc n) test {j} e = go (bool_cases (test a)) (first_some (suc a) n test {j = j})
   where
     here : test a ≡ true → j ≡ a → IsFirst a (suc n) test j
     here y q = record { from = omega arith; before = omega arith; passes = rw q y; earlier = λ u h k. let z : ⊥ = omega arith in absurd z }
 
-    go : (test a ≡ true) ⊎ (test a ≡ false) → (first (suc a) n test ≡ some j → IsFirst (suc a) n test j) → IsFirst a (suc n) test j
+    go : (test a ≡ true) ⊎ (test a ≡ false) → (first (suc a) n test ≡ Some j → IsFirst (suc a) n test j) → IsFirst a (suc n) test j
     go (inl y) later = here y (cc (first_yes a n test y))
     go (inr x) later =
         let f : IsFirst (suc a) n test j = later (cc (first_no a n test x)) in
@@ -96,17 +97,17 @@ first_not_less {i} {j} f g = let not_later : ¬ (j < i) = λ l. true≢false (sy
 pub first_unique : {a n : ℕ} {test : ℕ → Bool} {i j : ℕ} → IsFirst a n test i → IsFirst a n test j → i ≡ j
 first_unique f g = le_antisymm (first_not_less f g) (first_not_less g f)
 
-pub first_is : (a n : ℕ) (test : ℕ → Bool) {j : ℕ} → IsFirst a n test j → first a n test ≡ some j
+pub first_is : (a n : ℕ) (test : ℕ → Bool) {j : ℕ} → IsFirst a n test j → first a n test ≡ Some j
 first_is a n test {j} f = go (answer (first a n test))
   where
-    go : Answer (first a n test) → first a n test ≡ some j
+    go : Answer (first a n test) → first a n test ≡ Some j
     go (nothing e) = absurd (true≢false (sym f.passes ∙ first_none a n test e j f.from f.before))
     go (it_is i e) = rw (e, first_unique (first_some a n test e) f)
 
-pub first_is_none : (a n : ℕ) (test : ℕ → Bool) → ((u : ℕ) → a ≤ u → u < a + n → test u ≡ false) → first a n test ≡ none
+pub first_is_none : (a n : ℕ) (test : ℕ → Bool) → ((u : ℕ) → a ≤ u → u < a + n → test u ≡ false) → first a n test ≡ None
 first_is_none a n test h = go (answer (first a n test))
   where
-    go : Answer (first a n test) → first a n test ≡ none
+    go : Answer (first a n test) → first a n test ≡ None
     go (nothing e) = e
     go (it_is i e) =
         let f : IsFirst a n test i = first_some a n test e in
@@ -125,13 +126,13 @@ first_same a n f g same = go (answer (first a n g))
         first_is a n f here ∙ sym e
 
 -- a row in which some number passes has a first one
-pub first_exists : (a n : ℕ) (test : ℕ → Bool) (u : ℕ) → a ≤ u → u < a + n → test u ≡ true → (j : ℕ) × (first a n test ≡ some j) × (j ≤ u)
+pub first_exists : (a n : ℕ) (test : ℕ → Bool) (u : ℕ) → a ≤ u → u < a + n → test u ≡ true → (j : ℕ) × (first a n test ≡ Some j) × (j ≤ u)
 first_exists a n test u h k e = go (answer (first a n test))
   where
     up_to : (j : ℕ) → IsFirst a n test j → j ≤ u
     up_to j f = let not_later : ¬ (u < j) = λ l. true≢false (sym e ∙ f.earlier u h l) in omega arith
 
-    go : Answer (first a n test) → (j : ℕ) × (first a n test ≡ some j) × (j ≤ u)
+    go : Answer (first a n test) → (j : ℕ) × (first a n test ≡ Some j) × (j ≤ u)
     go (nothing q) = absurd (true≢false (sym e ∙ first_none a n test q u h k))
     go (it_is j q) = (j, q, up_to j (first_some a n test q))
 
@@ -154,20 +155,20 @@ every_is a (suc n) test h =
 
 -- ---- found
 
-pub found_some : {o : Option ℕ} → found o ≡ true → (n : ℕ) × (o ≡ some n)
+pub found_some : {o : Option ℕ} → found o ≡ true → (n : ℕ) × (o ≡ Some n)
 unfolding found
-found_some {o = none} e = absurd (false≢true e)
-found_some {o = some n} e = (n, refl)
+found_some {o = None} e = absurd (false≢true e)
+found_some {o = Some n} e = (n, refl)
 
-pub found_none : {o : Option ℕ} → found o ≡ false → o ≡ none
+pub found_none : {o : Option ℕ} → found o ≡ false → o ≡ None
 unfolding found
-found_none {o = none} e = refl
-found_none {o = some n} e = absurd (true≢false e)
+found_none {o = None} e = refl
+found_none {o = Some n} e = absurd (true≢false e)
 
-pub some_found : {o : Option ℕ} {n : ℕ} → o ≡ some n → found o ≡ true
+pub some_found : {o : Option ℕ} {n : ℕ} → o ≡ Some n → found o ≡ true
 unfolding found
 some_found e = rw e
 
-pub none_found : {o : Option ℕ} → o ≡ none → found o ≡ false
+pub none_found : {o : Option ℕ} → o ≡ None → found o ≡ false
 unfolding found
 none_found e = rw e

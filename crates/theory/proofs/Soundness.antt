@@ -1,8 +1,8 @@
 -- No job takes longer than times that are at least the demand at themselves, whatever frames the higher tasks start the window with.
+use Rattle.std.specs.Prelude.{Some, unwrap_or}
 use mathlib.Core.List.{List, Memᴰ}
 use mathlib.Core.Logic.{◌⊎◌, inl, inr}
 use mathlib.Core.Bool.{true}
-use mathlib.Core.Option.{some, get_or}
 use mathlib.Core.Path.{◌≡◌, refl, ◌∙◌, ap, subst}
 use Prim.Native.Nat.{ℕ, zero, suc, ◌+◌, ◌*◌, ◌%◌, ◌≤◌, ◌<◌}
 use native.Mathlib.Decide.{dec_le}
@@ -112,7 +112,7 @@ module _ (set : List Task) (run : Run) (legal : Legal set run) (p : ℕ) (in_set
         (subst (λ y. Memᴰ (job r k (suc w)) y.jobs) (seen_lane set run (r + x) p) l.stands))
       where
         go : Memᴰ (job r k (suc w)) ((state_at set run (r + x)).lanes p).jobs
-            ⊎ ((r ≡ r + x) × (k ≡ next_at (r + x) p) × ((run.input (r + x)).release_of p ≡ some (suc w))) → x < times k
+            ⊎ ((r ≡ r + x) × (k ≡ next_at (r + x) p) × ((run.input (r + x)).release_of p ≡ Some (suc w))) → x < times k
         go (inl m) = omega (arith, (unfinished_early r k w (r + x) l.reached m).1)
         go (inr (now, next, _)) = omega (arith, e.positive k (rw next (frame_at (r + x) l.reached)))
 
@@ -144,7 +144,7 @@ module _ (set : List Task) (admitted : Admitted set) (p : ℕ) (in_set : p < len
 
   -- a frame's response time
   response_time : ℕ → ℕ
-  response_time k = get_or (response_of set p k) 0
+  response_time k = unwrap_or (response_of set p k) 0
 
   is_response : passes set p ≡ true → (k : ℕ) → IsResponse (demand_of set p k) (deadline_of (task_at set p) k) (response_time k)
   unfolding response_time
@@ -169,8 +169,8 @@ module _ (set : List Task) (admitted : Admitted set) (p : ℕ) (in_set : p < len
       )
 
   -- a job of a passing task takes longer only than what is less than its frame's response time
-  pub takes_less_than_response : passes set p ≡ true → (run : Run) → Legal set run → (r k x : ℕ) {R : ℕ} → TakesLonger set run p r k x → response_of set p k ≡ some R → x < R
+  pub takes_less_than_response : passes set p ≡ true → (run : Run) → Legal set run → (r k x : ℕ) {R : ℕ} → TakesLonger set run p r k x → response_of set p k ≡ Some R → x < R
   unfolding response_time
   takes_less_than_response pass run legal r k x longer e =
-      let same : response_time k ≡ _ = ap (λ o. get_or o 0) e in
+      let same : response_time k ≡ _ = ap (λ o. unwrap_or o 0) e in
       omega (arith, takes_less set run legal p in_set periods_above response_time (enough_by_response pass) r k x longer, same)

@@ -1,7 +1,7 @@
 -- One tick of a run: who has it, that a stretch under way has less than Q to come, and how the work at or above a place falls.
+use Rattle.std.specs.Prelude.{None, Option, Some}
 use mathlib.Core.Bool.{Bool, true, false}
 use mathlib.Core.List.{List}
-use mathlib.Core.Option.{Option, none, some}
 use mathlib.Core.Path.{◌≡◌, refl, ◌∙◌, ap}
 use Prim.Native.Nat.{ℕ, zero, suc, pred, ◌+◌, ◌≤◌, ◌<◌}
 use native.Mathlib.Decide.{dec_le}
@@ -25,12 +25,12 @@ oldest s p = oldest_left (s.lanes p).jobs
 
 -- who has the tick: the job of the stretch under way, else the highest pending, else nobody
 pub data Picked (set : List Task) (s : State) : Type 0 where
-  in_stretch : (m : ℕ) → s.to_come ≡ suc m → pick set s ≡ some s.owner → Picked set s
-  highest : (q : ℕ) → s.to_come ≡ 0 → pick set s ≡ some q → q < length set → 1 ≤ oldest s q → ((u : ℕ) → u < q → oldest s u ≡ 0) → Picked set s
-  idle : s.to_come ≡ 0 → pick set s ≡ none → ((u : ℕ) → u < length set → oldest s u ≡ 0) → Picked set s
+  in_stretch : (m : ℕ) → s.to_come ≡ suc m → pick set s ≡ Some s.owner → Picked set s
+  highest : (q : ℕ) → s.to_come ≡ 0 → pick set s ≡ Some q → q < length set → 1 ≤ oldest s q → ((u : ℕ) → u < q → oldest s u ≡ 0) → Picked set s
+  idle : s.to_come ≡ 0 → pick set s ≡ None → ((u : ℕ) → u < length set → oldest s u ≡ 0) → Picked set s
 
 module _ (set : List Task) (s : State) where
-  pick_stretch : (m : ℕ) → s.to_come ≡ suc m → pick set s ≡ some s.owner
+  pick_stretch : (m : ℕ) → s.to_come ≡ suc m → pick set s ≡ Some s.owner
   unfolding pick
   pick_stretch m e = rw (e, pick)
 
@@ -55,19 +55,19 @@ module _ (set : List Task) (s : State) where
 -- ---- what a tick does
 
 module _ (p new : ℕ) (s : State) where
-  pub tick_served : ((tick (some p) new s).lanes p).jobs ≡ serve (s.lanes p).jobs
+  pub tick_served : ((tick (Some p) new s).lanes p).jobs ≡ serve (s.lanes p).jobs
   unfolding tick serve_lane
   tick_served = rw (eq-eqb p p refl)
 
-  pub tick_others : (q : ℕ) → (q ≡ p → ⊥) → (tick (some p) new s).lanes q ≡ s.lanes q
+  pub tick_others : (q : ℕ) → (q ≡ p → ⊥) → (tick (Some p) new s).lanes q ≡ s.lanes q
   unfolding tick serve_lane
   tick_others q ne = rw (ne_eqb q p ne)
 
-  pub tick_owner : (tick (some p) new s).owner ≡ p
+  pub tick_owner : (tick (Some p) new s).owner ≡ p
   unfolding tick
   tick_owner = refl
 
-  pub tick_to_come : (tick (some p) new s).to_come ≡ stretch_after (pred (oldest s p)) (stretch_now s.to_come new)
+  pub tick_to_come : (tick (Some p) new s).to_come ≡ stretch_after (pred (oldest s p)) (stretch_now s.to_come new)
   unfolding tick
   tick_to_come = refl
 
@@ -96,8 +96,8 @@ unfolding state_at seen_at step tick serve_lane
 lane_step set run t q = go (pick set (seen_at set run t))
   where
     go : (o : Option ℕ) → (b : Bool) × ((tick o (run.input t).stretch (seen_at set run t)).lanes q ≡ serve_lane b ((seen_at set run t).lanes q))
-    go none = (false, refl)
-    go (some p) = (eqb q p, refl)
+    go None = (false, refl)
+    go (Some p) = (eqb q p, refl)
 
 pub seen_lane : (set : List Task) (run : Run) (t q : ℕ) → (seen_at set run t).lanes q ≡ release_lane (task_at set q) t ((run.input t).release_of q) ((state_at set run t).lanes q)
 unfolding seen_at release
@@ -108,7 +108,7 @@ module _ (set : List Task) (run : Run) (t q : ℕ) where
   seen_here o = release_lane (task_at set q) t o ((state_at set run t).lanes q)
 
   -- without a release the lane is the one before
-  pub unreleased : (run.input t).release_of q ≡ none → (seen_at set run t).lanes q ≡ (state_at set run t).lanes q
+  pub unreleased : (run.input t).release_of q ≡ None → (seen_at set run t).lanes q ≡ (state_at set run t).lanes q
   unfolding release_lane
   unreleased e = seen_lane set run t q ∙ ap seen_here e
 
@@ -150,7 +150,7 @@ held_seen set run t h =
       below_lock = h.below_lock;
     }
 
-held_served : (set : List Task) (s : State) (p new : ℕ) → p < length set → stretch_now s.to_come new ≤ (task_at set p).lock → Held set (tick (some p) new s)
+held_served : (set : List Task) (s : State) (p new : ℕ) → p < length set → stretch_now s.to_come new ≤ (task_at set p).lock → Held set (tick (Some p) new s)
 held_served set s p new l fits =
     record {
       in_set = λ _. rw (tick_owner p new s) l;
@@ -158,15 +158,15 @@ held_served set s p new l fits =
       below_lock = λ h. rw (tick_owner p new s, tick_to_come p new s) (le_trans (goes_on h).1 fits);
     }
   where
-    goes_on : 1 ≤ (tick (some p) new s).to_come
+    goes_on : 1 ≤ (tick (Some p) new s).to_come
         → (1 ≤ pred (oldest s p)) × (suc (stretch_after (pred (oldest s p)) (stretch_now s.to_come new)) ≤ stretch_now s.to_come new)
     goes_on h = stretch_goes_on (pred (oldest s p)) (stretch_now s.to_come new) (rw (tick_to_come p new s) at h)
 
-longest_free : (set : List Task) {n : ℕ} {o : Option ℕ} {p : ℕ} → n ≡ 0 → o ≡ some p → longest_stretch set n o ≡ (task_at set p).lock
+longest_free : (set : List Task) {n : ℕ} {o : Option ℕ} {p : ℕ} → n ≡ 0 → o ≡ Some p → longest_stretch set n o ≡ (task_at set p).lock
 unfolding longest_stretch
 longest_free set e q = rw (e, q)
 
-pub tick_idle : {o : Option ℕ} (new : ℕ) (s : State) → o ≡ none → tick o new s ≡ s
+pub tick_idle : {o : Option ℕ} (new : ℕ) (s : State) → o ≡ None → tick o new s ≡ s
 unfolding tick
 tick_idle new s q = rw q
 
@@ -229,35 +229,35 @@ stray_blocks set run legal p t h = go (dec_le (state_at set run t).owner p)
     go (no l) = omega (arith, stray_below p (state_at set run t) (omega arith), stretch_blocks set run legal t p h (omega arith))
 
 -- a tick given at or above place p takes one unit
-pub served_above : (p q new : ℕ) (s : State) → q ≤ p → 1 ≤ oldest s q → pending_work p s ≡ suc (pending_work p (tick (some q) new s))
+pub served_above : (p q new : ℕ) (s : State) → q ≤ p → 1 ≤ oldest s q → pending_work p s ≡ suc (pending_work p (tick (Some q) new s))
 unfolding pending_work
 served_above p q new s h l =
     sum_one_less {n = suc p} {q = q} (omega arith) (rw (tick_served q new s) (serve_total (s.lanes q).jobs l))
     (λ u _ ne. rw (tick_others q new s u ne))
 
 -- one given below takes none
-pub served_below : (p q new : ℕ) (s : State) → p < q → pending_work p s ≡ pending_work p (tick (some q) new s)
+pub served_below : (p q new : ℕ) (s : State) → p < q → pending_work p s ≡ pending_work p (tick (Some q) new s)
 unfolding pending_work
 served_below p q new s h = sum_eq (suc p) (λ u l. rw (tick_others q new s u (λ e. omega arith)))
 
 -- no tick adds work
 pub tick_adds_nothing : (p new : ℕ) (o : Option ℕ) (s : State) → pending_work p (tick o new s) ≤ pending_work p s
 unfolding pending_work tick
-tick_adds_nothing p new none s = le_refl _
-tick_adds_nothing p new (some q) s = sum_le (suc p) (λ u l. serve_lane_total (eqb u q) (s.lanes u))
+tick_adds_nothing p new None s = le_refl _
+tick_adds_nothing p new (Some q) s = sum_le (suc p) (λ u l. serve_lane_total (eqb u q) (s.lanes u))
 
 takes_above : (p q new : ℕ) (s : State) → q ≤ p → 1 ≤ oldest s q
-    → suc (pending_work p (tick (some q) new s) + stray p (tick (some q) new s)) ≤ pending_work p s + stray p s
+    → suc (pending_work p (tick (Some q) new s) + stray p (tick (Some q) new s)) ≤ pending_work p s + stray p s
 takes_above p q new s h l =
-    let above : (tick (some q) new s).owner ≤ p = rw (tick_owner q new s) h in
-    omega (arith, served_above p q new s h l, stray_above p (tick (some q) new s) above)
+    let above : (tick (Some q) new s).owner ≤ p = rw (tick_owner q new s) h in
+    omega (arith, served_above p q new s h l, stray_above p (tick (Some q) new s) above)
 
 takes_below : (p m new : ℕ) (s : State) → p < s.owner → s.to_come ≡ suc m
-    → suc (pending_work p (tick (some s.owner) new s) + stray p (tick (some s.owner) new s)) ≤ pending_work p s + stray p s
+    → suc (pending_work p (tick (Some s.owner) new s) + stray p (tick (Some s.owner) new s)) ≤ pending_work p s + stray p s
 takes_below p m new s h e =
-    let below : p < (tick (some s.owner) new s).owner = rw (tick_owner s.owner new s) h in
-    let shorter : (tick (some s.owner) new s).to_come ≤ pred (stretch_now s.to_come new) = rw (tick_to_come s.owner new s) (stretch_after_le _ _) in
-    omega (arith, served_below p s.owner new s h, stray_below p s h, stray_below p (tick (some s.owner) new s) below, stretch_now_under_way new e)
+    let below : p < (tick (Some s.owner) new s).owner = rw (tick_owner s.owner new s) h in
+    let shorter : (tick (Some s.owner) new s).to_come ≤ pred (stretch_now s.to_come new) = rw (tick_to_come s.owner new s) (stretch_after_le _ _) in
+    omega (arith, served_below p s.owner new s h, stray_below p s h, stray_below p (tick (Some s.owner) new s) below, stretch_now_under_way new e)
 
 -- where work is pending at or above place p, some lane there has a job that may have the tick
 busy_at : (p : ℕ) (s : State) → 1 ≤ pending_work p s → (u : ℕ) × (u ≤ p) × (1 ≤ oldest s u)
@@ -269,7 +269,7 @@ pub tick_takes_one : (set : List Task) (p new : ℕ) (s : State) → p < length 
     → suc (pending_work p (tick (pick set s) new s) + stray p (tick (pick set s) new s)) ≤ pending_work p s + stray p s
 tick_takes_one set p new s in_set h busy (in_stretch m e q) = rw q (go (dec_le s.owner p))
   where
-    go : Dec (s.owner ≤ p) → suc (pending_work p (tick (some s.owner) new s) + stray p (tick (some s.owner) new s)) ≤ pending_work p s + stray p s
+    go : Dec (s.owner ≤ p) → suc (pending_work p (tick (Some s.owner) new s) + stray p (tick (Some s.owner) new s)) ≤ pending_work p s + stray p s
     go (yes l) = takes_above p s.owner new s l (h.job_pending (omega arith))
     go (no l) = takes_below p m new s (omega arith) e
 tick_takes_one set p new s in_set h busy (highest q e k l pend earlier) =

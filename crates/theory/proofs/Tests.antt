@@ -1,9 +1,10 @@
 -- Admitted and Legal as tests that compute, each equivalent to what it tests.
+use Rattle.std.specs.Prelude.{None, Option, Some}
 use mathlib.Core.Bool.{Bool, true, false, ◌&&◌, So, and-eq-true_iff, true≢false}
 use mathlib.Core.List.{List}
 use mathlib.Core.Logic.Iff
 use mathlib.Core.Logic.{◌↔◌}
-use mathlib.Core.Option.{Option, none, some, none-ne-some}
+use Rattle.theory.proofs.Options.{none_ne_some}
 use mathlib.Core.Path.{◌≡◌, refl, sym, ◌∙◌}
 use Prim.Native.Nat.{ℕ, ◌≤◌, ◌<◌}
 use native.Mathlib.Omega.{arith}
@@ -80,14 +81,14 @@ admitted_is set =
 -- ---- legal
 
 unfoldable pub release_test : Task → ℕ → Lane → Option ℕ → Bool
-release_test task t l none = true
-release_test task t l (some w) = leb l.free_from t && leb w (frame task l.next)
+release_test task t l None = true
+release_test task t l (Some w) = leb l.free_from t && leb w (frame task l.next)
 
 release_is : (task : Task) (t : ℕ) (l : Lane) (o : Option ℕ)
-    → (release_test task t l o ≡ true) ↔ ((w : ℕ) → o ≡ some w → (l.free_from ≤ t) × (w ≤ frame task l.next))
+    → (release_test task t l o ≡ true) ↔ ((w : ℕ) → o ≡ Some w → (l.free_from ≤ t) × (w ≤ frame task l.next))
 unfolding release_test
-release_is task t l none = (λ _ w e. absurd (none-ne-some w e), λ _. refl)
-release_is task t l (some v) =
+release_is task t l None = (λ _ w e. absurd (none_ne_some w e), λ _. refl)
+release_is task t l (Some v) =
     Iff.trans (is_and (is_leb l.free_from t) (is_leb v (frame task l.next)))
     (λ h w e. let same : v ≡ w = cc in (h.0, rw (← same) h.1), λ h. h v refl)
 

@@ -1,9 +1,9 @@
 -- Demand 3, the theorems: what the analysis of a set says of its runs. Each states all that it assumes. A job is named by its task's place p,
 -- the tick r of its release and its frame k.
+use Rattle.std.specs.Prelude.{None, Option, Some}
 use mathlib.Core.Bool.{true, false}
 use mathlib.Core.List.{List}
 use mathlib.Core.Logic.{◌↔◌}
-use mathlib.Core.Option.{Option, none, some}
 use mathlib.Core.Path.{◌≡◌}
 use Prim.Native.Nat.{ℕ, ◌≤◌, ◌<◌}
 use native.Mathlib.Nat.{lt_irrefl, not-le_of_lt}
@@ -36,13 +36,13 @@ holds_no_miss set admitted h run legal p r k in_set miss =
 pub passing_no_longer : (set : List Task) → Admitted set
     → (p : ℕ) → p < length set → passes set p ≡ true
     → (run : Run) → Legal set run
-    → (r k R : ℕ) → response_of set p k ≡ some R → ¬ TakesLonger set run p r k R
+    → (r k R : ℕ) → response_of set p k ≡ Some R → ¬ TakesLonger set run p r k R
 passing_no_longer set admitted p in_set pass run legal r k R e longer = lt_irrefl R (takes_less_than_response set admitted p in_set pass run legal r k R longer e)
 
 -- Each frame of a passing task has a response time.
 pub passing_has_times : (set : List Task) → Admitted set
     → (p : ℕ) → p < length set → passes set p ≡ true
-    → (k : ℕ) → (R : ℕ) × (response_of set p k ≡ some R)
+    → (k : ℕ) → (R : ℕ) × (response_of set p k ≡ Some R)
 passing_has_times set admitted p in_set pass = passes_frames set p (admitted.each_task p in_set).well_formed.has_frame pass
 
 -- ---- The worst run of a frame
@@ -56,7 +56,7 @@ worst_run_legal set admitted p k in_set k_in = worst_legal set admitted p in_set
 -- In the worst run of a frame that has a response time the frame's job, released at tick 1, takes exactly that time.
 pub worst_run_exact : (set : List Task) → Admitted set
     → (p k R : ℕ) → p < length set → k < frame_count (task_at set p)
-    → response_of set p k ≡ some R
+    → response_of set p k ≡ Some R
     → Takes set (worst_run set p k) p 1 k R
 worst_run_exact set admitted p k R in_set k_in e = worst_exact set admitted p in_set k k_in e
 
@@ -64,7 +64,7 @@ worst_run_exact set admitted p k R in_set k_in e = worst_exact set admitted p in
 pub passing_reached : (set : List Task) → Admitted set
     → (p : ℕ) → p < length set → passes set p ≡ true
     → (k : ℕ) → k < frame_count (task_at set p)
-    → (R : ℕ) × (response_of set p k ≡ some R) × Legal set (worst_run set p k) × Takes set (worst_run set p k) p 1 k R
+    → (R : ℕ) × (response_of set p k ≡ Some R) × Legal set (worst_run set p k) × Takes set (worst_run set p k) p 1 k R
 passing_reached set admitted p in_set pass k k_in =
     let (R, e) = passing_has_times set admitted p in_set pass k in
     (R, e, worst_run_legal set admitted p k in_set k_in, worst_run_exact set admitted p k R in_set k_in e)
@@ -74,7 +74,7 @@ passing_reached set admitted p in_set pass k k_in =
 -- In the worst run of a frame that has no response time the frame's job, released at tick 1, misses its deadline.
 pub worst_run_misses : (set : List Task) → Admitted set
     → (p k : ℕ) → p < length set → k < frame_count (task_at set p)
-    → response_of set p k ≡ none
+    → response_of set p k ≡ None
     → Misses set (worst_run set p k) p 1 k
 worst_run_misses set admitted p k in_set k_in e = worst_misses set admitted p in_set k k_in e
 

@@ -1,8 +1,8 @@
 -- Laws of a set: its frames' demands, passing, the verdict, the rounds.
+use Rattle.std.specs.Prelude.{None, Option, Some}
 use mathlib.Core.Bool.{Bool, true, false, not, true≢false}
 use mathlib.Core.List.{List}
 use mathlib.Core.Logic.{◌↔◌}
-use mathlib.Core.Option.{Option, none, some}
 use mathlib.Core.Path.{◌≡◌, refl, sym, ◌∙◌, ap, ap₂, subst₂}
 use Prim.Native.Nat.{ℕ, suc, ◌+◌, ◌%◌, ◌≤◌, ◌<◌, zero-le}
 use native.Mathlib.Nat.{le_refl, le_antisymm, mod-lt}
@@ -32,11 +32,11 @@ module _ (set : List Task) (p : ℕ) where
   demand_of_least k t = demand_least _ _ _ _
 
   -- the response time, as computed and as the equation says it
-  pub response_of_is : (k : ℕ) {t : ℕ} → (response_of set p k ≡ some t) ↔ IsResponse (demand_of set p k) (deadline_of (task_at set p) k) t
+  pub response_of_is : (k : ℕ) {t : ℕ} → (response_of set p k ≡ Some t) ↔ IsResponse (demand_of set p k) (deadline_of (task_at set p) k) t
   unfolding response_of
   response_of_is k = response_is (demand_of set p k) (deadline_of (task_at set p) k)
 
-  pub no_response_of_is : (k : ℕ) → (response_of set p k ≡ none) ↔ ((t : ℕ) → 1 ≤ t → t ≤ deadline_of (task_at set p) k → t < demand_of set p k t)
+  pub no_response_of_is : (k : ℕ) → (response_of set p k ≡ None) ↔ ((t : ℕ) → 1 ≤ t → t ≤ deadline_of (task_at set p) k → t < demand_of set p k t)
   unfolding response_of
   no_response_of_is k = no_response_is (demand_of set p k) (deadline_of (task_at set p) k)
 
@@ -47,13 +47,13 @@ module _ (set : List Task) (p : ℕ) where
       ap₂ (λ (own D : ℕ). response (demand (blocking (lower set p)) own (higher set p)) D) (frame_mod (task_at set p) k) (deadline_mod (task_at set p) k)
 
   -- of a task that passes every frame has a response time
-  pub passes_frames : 1 ≤ frame_count (task_at set p) → passes set p ≡ true → (k : ℕ) → (t : ℕ) × (response_of set p k ≡ some t)
+  pub passes_frames : 1 ≤ frame_count (task_at set p) → passes set p ≡ true → (k : ℕ) → (t : ℕ) × (response_of set p k ≡ Some t)
   passes_frames h e k =
       let m = frame_count (task_at set p) in
       let (t, r) = found_some (every_at 0 m (λ j. found (response_of set p j)) (asked set p e) (k % m) zero-le (omega (arith, mod-lt k h))) in
       (t, sym (response_of_mod k) ∙ r)
 
-  pub passes_if : ((k : ℕ) → k < frame_count (task_at set p) → (t : ℕ) × (response_of set p k ≡ some t)) → passes set p ≡ true
+  pub passes_if : ((k : ℕ) → k < frame_count (task_at set p) → (t : ℕ) × (response_of set p k ≡ Some t)) → passes set p ≡ true
   unfolding passes
   passes_if have = every_is 0 (frame_count (task_at set p)) _ (λ k _ h. some_found (have k (omega arith)).1)
 
@@ -79,11 +79,11 @@ module _ (set : List Task) (p : ℕ) where
 
   -- the rounds reach the response time; without one they pass the deadline
   module _ (k : ℕ) (positive : 1 ≤ frame (task_at set p) k) where
-    pub rounds_of_reach : {t : ℕ} → response_of set p k ≡ some t → (n : ℕ) × (n ≤ suc (deadline_of (task_at set p) k)) × (rounds_of set p k n ≡ t) × (rounds_of set p k (suc n) ≡ t)
+    pub rounds_of_reach : {t : ℕ} → response_of set p k ≡ Some t → (n : ℕ) × (n ≤ suc (deadline_of (task_at set p) k)) × (rounds_of set p k n ≡ t) × (rounds_of set p k (suc n) ≡ t)
     unfolding rounds_of
     rounds_of_reach e = rounds_reach (demand_of_monotone k) (demand_of_least k) (omega arith) ((response_of_is k).0 e)
 
-    pub rounds_of_pass : response_of set p k ≡ none → (n : ℕ) × (n ≤ suc (deadline_of (task_at set p) k)) × (deadline_of (task_at set p) k < rounds_of set p k n)
+    pub rounds_of_pass : response_of set p k ≡ None → (n : ℕ) × (n ≤ suc (deadline_of (task_at set p) k)) × (deadline_of (task_at set p) k < rounds_of set p k n)
     unfolding rounds_of
     rounds_of_pass e = rounds_pass (demand_of_monotone k) (demand_of_least k) (omega arith) ((no_response_of_is k).0 e)
 

@@ -1,8 +1,8 @@
 -- Laws of frames and of the work of n jobs: one job more, whole rounds, monotone; the largest frame; the start frame, for every number of jobs.
+use Rattle.std.specs.Prelude.{Some}
 use mathlib.Core.Bool.{Bool, true}
 use mathlib.Core.List.{List, [], ◌∷◌}
 use mathlib.Core.Logic.{◌↔◌}
-use mathlib.Core.Option.{some}
 use mathlib.Core.Path.{◌≡◌, refl, sym, ◌∙◌, ap}
 use Prim.Native.Nat.{ℕ, zero, suc, ◌+◌, ◌*◌, ◌%◌, ◌≤◌, ◌<◌}
 use native.Mathlib.Decide.{dec_le}
@@ -139,10 +139,10 @@ module _ (t : Task) where
         lowest = λ u q. not_above j e u q (dec_le (suc u) (frame_count t)) (omega arith);
       })
     where
-      found_below : (u : ℕ) → u < frame_count t → Qualifies t u → (j : ℕ) × (first 0 (frame_count t) (qualifies t) ≡ some j) × (j ≤ u)
+      found_below : (u : ℕ) → u < frame_count t → Qualifies t u → (j : ℕ) × (first 0 (frame_count t) (qualifies t) ≡ Some j) × (j ≤ u)
       found_below u l q = first_exists 0 (frame_count t) (qualifies t) u (omega arith) (omega arith) ((qualifies_test u).1 q)
 
-      not_above : (j : ℕ) → first 0 (frame_count t) (qualifies t) ≡ some j → (u : ℕ) → Qualifies t u → Dec (u < frame_count t) → j < frame_count t → j ≤ u
+      not_above : (j : ℕ) → first 0 (frame_count t) (qualifies t) ≡ Some j → (u : ℕ) → Qualifies t u → Dec (u < frame_count t) → j < frame_count t → j ≤ u
       not_above j e u q (no h) l = omega arith
       not_above j e u q (yes h) l = let (i, e', l') = found_below u h q in let same : j ≡ i = cc in omega arith
 

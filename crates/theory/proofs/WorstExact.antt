@@ -1,6 +1,6 @@
 -- In the worst run of a frame its job is complete exactly when the demand is first met.
+use Rattle.std.specs.Prelude.{None, Some}
 use mathlib.Core.List.{List, [], ◌∷◌, Memᴰ}
-use mathlib.Core.Option.{none, some}
 use mathlib.Core.Path.{◌≡◌, refl, sym, ◌∙◌, ap, subst}
 use Prim.Native.Nat.{ℕ, zero, suc, ◌+◌, ◌≤◌, ◌<◌}
 use native.Mathlib.Decide.{ℕ_discrete}
@@ -175,7 +175,7 @@ module _ (set : List Task) (admitted : Admitted set) (p : ℕ) (in_set : p < len
   longer x h more = (left x, pending_before x more x (le_refl x), job_left x h)
 
   -- the frame's job takes exactly the response time
-  pub worst_exact : {R : ℕ} → response_of set p k ≡ some R → Takes set (worst_run set p k) p 1 k R
+  pub worst_exact : {R : ℕ} → response_of set p k ≡ Some R → Takes set (worst_run set p k) p 1 k R
   unfolding Takes
   worst_exact {R} e = go R ((response_of_is set p k).0 e)
     where
@@ -187,6 +187,6 @@ module _ (set : List Task) (admitted : Admitted set) (p : ℕ) (in_set : p < len
       )
 
   -- without a response time it misses
-  pub worst_misses : response_of set p k ≡ none → Misses set (worst_run set p k) p 1 k
+  pub worst_misses : response_of set p k ≡ None → Misses set (worst_run set p k) p 1 k
   unfolding Misses
   worst_misses e = longer (deadline_of (task_at set p) k) (le_refl _) ((no_response_of_is set p k).0 e)

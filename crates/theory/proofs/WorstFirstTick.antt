@@ -1,6 +1,6 @@
 -- Tick 0 of the worst run: the blocker, if any, alone runs one tick of its stretch, so that the blocking is to come at tick 1.
+use Rattle.std.specs.Prelude.{None, Option, Some}
 use mathlib.Core.List.{List, [], ◌∷◌}
-use mathlib.Core.Option.{Option, none, some}
 use mathlib.Core.Path.{◌≡◌, refl, sym, ◌∙◌, ap}
 use Prim.Native.Nat.{ℕ, suc, pred, ◌≤◌, ◌<◌}
 use native.Mathlib.Nat.{le_of_eq}
@@ -26,21 +26,21 @@ module _ (set : List Task) (p k : ℕ) where
   seen = seen_at set worst 0
 
   -- a lane without a release at tick 0 is empty
-  pub empty : (q : ℕ) → ((worst_run set p k).input 0).release_of q ≡ none → ((seen_at set (worst_run set p k) 0).lanes q).jobs ≡ []
+  pub empty : (q : ℕ) → ((worst_run set p k).input 0).release_of q ≡ None → ((seen_at set (worst_run set p k) 0).lanes q).jobs ≡ []
   unfolding seen_at release release_lane state_at start_state
   empty q e = rw e
 
-  empty_idle : (q : ℕ) → (worst.input 0).release_of q ≡ none → oldest seen q ≡ 0
+  empty_idle : (q : ℕ) → (worst.input 0).release_of q ≡ None → oldest seen q ≡ 0
   unfolding oldest_left
   empty_idle q e = rw (empty q e)
 
   -- the blocker's lane has one job, with work Q
-  pub blocker_lane : {b : ℕ} → blocker set p ≡ some b
+  pub blocker_lane : {b : ℕ} → blocker set p ≡ Some b
       → ((seen_at set (worst_run set p k) 0).lanes b).jobs ≡ job 0 ((worst_run set p k).first_frame b) (task_at set b).lock ∷ []
   unfolding seen_at release release_lane state_at start_state
   blocker_lane {b} e = rw (release_blocker set p k b 0 (role_blocks set p e), once_at 0 (task_at set b).lock)
 
-  blocker_oldest : {b : ℕ} → blocker set p ≡ some b → oldest seen b ≡ (task_at set b).lock
+  blocker_oldest : {b : ℕ} → blocker set p ≡ Some b → oldest seen b ≡ (task_at set b).lock
   blocker_oldest {b} e = ap oldest_left (blocker_lane e) ∙ oldest_one 0 _ (task_at set b).lock
 
   -- no stretch is under way
@@ -50,20 +50,20 @@ module _ (set : List Task) (p k : ℕ) where
 
   -- who has tick 0
   pub data FirstTick : Type 0 where
-    blocked : (b : ℕ) → blocker set p ≡ some b → pick set (seen_at set (worst_run set p k) 0) ≡ some b → FirstTick
-    unblocked : blocker set p ≡ none → pick set (seen_at set (worst_run set p k) 0) ≡ none → FirstTick
+    blocked : (b : ℕ) → blocker set p ≡ Some b → pick set (seen_at set (worst_run set p k) 0) ≡ Some b → FirstTick
+    unblocked : blocker set p ≡ None → pick set (seen_at set (worst_run set p k) 0) ≡ None → FirstTick
 
   -- the blocker has it, and nobody where there is none
   pub first_tick : FirstTick
   first_tick = go (picked set seen)
     where
-      only : (q : ℕ) → pick set seen ≡ some q → 1 ≤ oldest seen q → RoleOf set p q → FirstTick
+      only : (q : ℕ) → pick set seen ≡ Some q → 1 ≤ oldest seen q → RoleOf set p q → FirstTick
       only q e pend (is_above l r) = let z : ⊥ = omega (arith, empty_idle q (none_at_zero set p k q (omega arith))) in absurd z
       only q e pend (is_own same r) = let z : ⊥ = omega (arith, empty_idle q (none_at_zero set p k q (omega arith))) in absurd z
       only q e pend (is_blocker l b r) = blocked q b e
       only q e pend (is_absent l b r) = let z : ⊥ = omega (arith, empty_idle q (release_absent set p k q 0 r)) in absurd z
 
-      none_pending : pick set seen ≡ none → ((u : ℕ) → u < length set → oldest seen u ≡ 0) → Answer (blocker set p) → FirstTick
+      none_pending : pick set seen ≡ None → ((u : ℕ) → u < length set → oldest seen u ≡ 0) → Answer (blocker set p) → FirstTick
       none_pending e idle_lanes (nothing no_b) = unblocked no_b e
       none_pending e idle_lanes (it_is b is_b) =
           let i : IsBlocker set p b = blocker_is set p is_b in
@@ -80,12 +80,12 @@ module _ (set : List Task) (p k : ℕ) where
   stretch_zero e = rw e
 
   -- with a blocker the stretch that starts at tick 0 has its Q
-  pub blocker_stretch : {b : ℕ} → blocker set p ≡ some b → ((worst_run set p k).input 0).stretch ≡ (task_at set b).lock
+  pub blocker_stretch : {b : ℕ} → blocker set p ≡ Some b → ((worst_run set p k).input 0).stretch ≡ (task_at set b).lock
   unfolding worst_stretch
   blocker_stretch e = stretch_zero e
 
   -- without one none starts
-  pub unblocked_stretch : blocker set p ≡ none → ((worst_run set p k).input 0).stretch ≡ 0
+  pub unblocked_stretch : blocker set p ≡ None → ((worst_run set p k).input 0).stretch ≡ 0
   unfolding worst_stretch
   unblocked_stretch e = stretch_zero e
 
@@ -113,7 +113,7 @@ module _ (set : List Task) (p k : ℕ) where
     to_come_is : s.to_come ≡ blocking (lower set p)
     foreign : Foreign p s
 
-  after_blocker : (b : ℕ) → blocker set p ≡ some b → Blocked (tick (some b) (task_at set b).lock seen)
+  after_blocker : (b : ℕ) → blocker set p ≡ Some b → Blocked (tick (Some b) (task_at set b).lock seen)
   after_blocker b e =
       record {
         to_come_is = to_come;
@@ -130,13 +130,13 @@ module _ (set : List Task) (p k : ℕ) where
       i : IsBlocker set p b
       i = blocker_is set p e
 
-      to_come : (tick (some b) Q seen).to_come ≡ blocking (lower set p)
+      to_come : (tick (Some b) Q seen).to_come ≡ blocking (lower set p)
       to_come = tick_to_come b Q seen ∙ rw (blocker_oldest e, none_under_way, now_starts Q) (stretch_of_job Q ∙ ap pred (blocker_blocks set p e))
 
       left : oldest_left (serve (seen.lanes b).jobs) ≡ blocking (lower set p)
       left = ap oldest_left (ap serve (blocker_lane e) ∙ serve_job 0 _ Q) ∙ oldest_one 0 _ (pred Q) ∙ ap pred (blocker_blocks set p e)
 
-  after_idle : blocker set p ≡ none → Blocked seen
+  after_idle : blocker set p ≡ None → Blocked seen
   after_idle e =
       record {
         to_come_is = none_under_way ∙ sym (no_blocker set p e);

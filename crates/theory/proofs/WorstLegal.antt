@@ -1,6 +1,7 @@
 -- The worst run of a frame keeps the run rules.
+use Rattle.std.specs.Prelude.{None, Option, Some}
 use mathlib.Core.List.{List}
-use mathlib.Core.Option.{Option, none, some, none-ne-some}
+use Rattle.theory.proofs.Options.{none_ne_some}
 use mathlib.Core.Path.{◌≡◌, refl, sym, ◌∙◌, ap}
 use Prim.Native.Nat.{ℕ, zero, suc, ◌+◌, ◌*◌, ◌%◌, ◌≤◌, ◌<◌}
 use native.Mathlib.Decide.{ℕ_discrete}
@@ -24,12 +25,12 @@ record Row (t : Task) (n : ℕ) (l : Lane) : Type 0 where
   spaced : l.free_from ≤ suc (n * t.period)
 
 -- what is released once is released at its tick
-once_when : {at w now v : ℕ} → once at w now ≡ some v → (now ≡ at) × (v ≡ w)
+once_when : {at w now v : ℕ} → once at w now ≡ Some v → (now ≡ at) × (v ≡ w)
 once_when {at} {w} {now} {v} e = go (ℕ_discrete now at)
   where
     go : Dec (now ≡ at) → (now ≡ at) × (v ≡ w)
     go (yes same) = (same, cc (once_at at w, ap (λ x. once at w x) same))
-    go (no ne) = absurd (none-ne-some v (sym (once_else at w now ne) ∙ e))
+    go (no ne) = absurd (none_ne_some v (sym (once_else at w now ne) ∙ e))
 
 module _ (set : List Task) (admitted : Admitted set) (p : ℕ) (in_set : p < length set) (k : ℕ) (k_in : k < frame_count (task_at set p)) where
   abbrev worst : Run
@@ -106,24 +107,24 @@ module _ (set : List Task) (admitted : Admitted set) (p : ℕ) (in_set : p < len
   Allowed : ℕ → ℕ → ℕ → Type 0
   Allowed t q w = ((lane t q).free_from ≤ t) × (w ≤ frame (task_at set q) (lane t q).next)
 
-  allowed_above : (t q w : ℕ) → q < p → every_period (task_at set q) t ≡ some w → Allowed t q w
+  allowed_above : (t q w : ℕ) → q < p → every_period (task_at set q) t ≡ Some w → Allowed t q w
   unfolding Allowed
-  allowed_above zero q w h e = absurd (none-ne-some w (sym (period_zero (task_at set q)) ∙ e))
+  allowed_above zero q w h e = absurd (none_ne_some w (sym (period_zero (task_at set q)) ∙ e))
   allowed_above (suc m) q w h e = go (releases m (task_at set q).period) (periodic (task_at set q) (period_of set admitted q (omega arith)) m) (row q m h)
     where
       go : (n : ℕ) → Periodic (task_at set q) m n → Row (task_at set q) n (lane (suc m) q) → Allowed (suc m) q w
       go n (releases_now now place more) before =
           let full : w ≡ frame (task_at set q) (start_frame (task_at set q) + n) = cc in
           (omega (arith, before.spaced), rw (before.next_is, frame_mod (task_at set q) (start_frame (task_at set q) + n)) (le_of_eq full))
-      go n (releases_none now more) before = absurd (none-ne-some w (sym now ∙ e))
+      go n (releases_none now more) before = absurd (none_ne_some w (sym now ∙ e))
 
-  allowed_own : (t w : ℕ) → once 1 (frame (task_at set p) k) t ≡ some w → Allowed t p w
+  allowed_own : (t w : ℕ) → once 1 (frame (task_at set p) k) t ≡ Some w → Allowed t p w
   unfolding Allowed worst_first
   allowed_own t w e =
       let (now, full) = once_when e in
       rw now (omega (arith, free_at_one p (le_refl p)), rw (next_at_one p (le_refl p), role_own set p) (le_of_eq full))
 
-  allowed_blocker : (t b w : ℕ) → b < length set → role set p b ≡ blocks → once 0 (task_at set b).lock t ≡ some w → Allowed t b w
+  allowed_blocker : (t b w : ℕ) → b < length set → role set p b ≡ blocks → once 0 (task_at set b).lock t ≡ Some w → Allowed t b w
   unfolding Allowed worst_first
   allowed_blocker t b w h r e =
       let (now, full) = once_when e in
@@ -133,14 +134,14 @@ module _ (set : List Task) (admitted : Admitted set) (p : ℕ) (in_set : p < len
         rw (first_next b, r, (largest_is (task_at set b) task.well_formed.has_frame).largest_time) (le_trans (le_of_eq full) task.lock_rule),
       )
 
-  allowed : (t q w : ℕ) → q < length set → ((worst_run set p k).input t).release_of q ≡ some w → Allowed t q w
+  allowed : (t q w : ℕ) → q < length set → ((worst_run set p k).input t).release_of q ≡ Some w → Allowed t q w
   allowed t q w h e = go (role_of set p q)
     where
       go : RoleOf set p q → Allowed t q w
       go (is_above l r) = allowed_above t q w l (sym (release_above set p k q t l) ∙ e)
       go (is_own same r) = rw same (allowed_own t w (sym (release_own set p k t) ∙ rw same at e))
       go (is_blocker l b r) = allowed_blocker t q w h r (sym (release_blocker set p k q t r) ∙ e)
-      go (is_absent l b r) = absurd (none-ne-some w (sym (release_absent set p k q t r) ∙ e))
+      go (is_absent l b r) = absurd (none_ne_some w (sym (release_absent set p k q t r) ∙ e))
 
   -- the blocker's stretch starts with tick 0, and none later
   pub no_later_stretch : (t : ℕ) → ((worst_run set p k).input (suc t)).stretch ≡ 0
@@ -148,8 +149,8 @@ module _ (set : List Task) (admitted : Admitted set) (p : ℕ) (in_set : p < len
   no_later_stretch t = go (blocker set p)
     where
       go : (o : Option ℕ) → worst_stretch set o (suc t) ≡ 0
-      go none = refl
-      go (some b) = refl
+      go None = refl
+      go (Some b) = refl
 
   -- so a tick after the first starts none
   pub later_step : (t : ℕ) → state_at set (worst_run set p k) (suc (suc t))

@@ -1,6 +1,7 @@
 -- What the worst run of a frame releases: by role, at each tick, and in total.
+use Rattle.std.specs.Prelude.{None, Some}
 use mathlib.Core.List.{List}
-use mathlib.Core.Option.{none, some, none-ne-some}
+use Rattle.theory.proofs.Options.{none_ne_some}
 use mathlib.Core.Path.{◌≡◌, refl, sym, ◌∙◌, ap}
 use Prim.Native.Nat.{ℕ, zero, suc, ◌+◌, ◌*◌, ◌%◌, ◌≤◌, ◌<◌}
 use native.Mathlib.Decide.{dec_le, ℕ_discrete}
@@ -22,22 +23,22 @@ use Rattle.theory.proofs.Busy.{arrived_above}
 
 -- ---- releases once, and at every period
 
-pub once_at : (at w : ℕ) → once at w at ≡ some w
+pub once_at : (at w : ℕ) → once at w at ≡ Some w
 unfolding once
 once_at at w = rw (eq-eqb at at refl, once)
 
-pub once_else : (at w now : ℕ) → (now ≡ at → ⊥) → once at w now ≡ none
+pub once_else : (at w now : ℕ) → (now ≡ at → ⊥) → once at w now ≡ None
 unfolding once
 once_else at w now ne = rw (ne_eqb now at ne, once)
 
-pub period_zero : (t : Task) → every_period t 0 ≡ none
+pub period_zero : (t : Task) → every_period t 0 ≡ None
 unfolding every_period
 period_zero t = refl
 
 -- what a tick is to a task that is released at every period: a release of its next job, or none; n jobs were released before
 pub data Periodic (t : Task) (m n : ℕ) : Type 0 where
-  releases_now : every_period t (suc m) ≡ some (frame t (start_frame t + n)) → m ≡ n * t.period → releases (suc m) t.period ≡ suc n → Periodic t m n
-  releases_none : every_period t (suc m) ≡ none → releases (suc m) t.period ≡ n → Periodic t m n
+  releases_now : every_period t (suc m) ≡ Some (frame t (start_frame t + n)) → m ≡ n * t.period → releases (suc m) t.period ≡ suc n → Periodic t m n
+  releases_none : every_period t (suc m) ≡ None → releases (suc m) t.period ≡ n → Periodic t m n
 
 pub periodic : (t : Task) → 1 ≤ t.period → (m : ℕ) → Periodic t m (releases m t.period)
 unfolding every_period
@@ -55,8 +56,8 @@ periodic t positive m = go (ℕ_discrete (m % t.period) 0)
 pub data RoleOf (set : List Task) (p q : ℕ) : Type 0 where
   is_above : q < p → role set p q ≡ above → RoleOf set p q
   is_own : q ≡ p → role set p q ≡ own → RoleOf set p q
-  is_blocker : p < q → blocker set p ≡ some q → role set p q ≡ blocks → RoleOf set p q
-  is_absent : p < q → (blocker set p ≡ some q → ⊥) → role set p q ≡ absent → RoleOf set p q
+  is_blocker : p < q → blocker set p ≡ Some q → role set p q ≡ blocks → RoleOf set p q
+  is_absent : p < q → (blocker set p ≡ Some q → ⊥) → role set p q ≡ absent → RoleOf set p q
 
 module _ (set : List Task) (p : ℕ) where
   pub role_above : (q : ℕ) → q < p → role set p q ≡ above
@@ -71,7 +72,7 @@ module _ (set : List Task) (p : ℕ) where
   unfolding role
   role_below q h = rw (le-ltb q p (omega arith), ne_eqb q p (λ e. omega arith), role)
 
-  pub role_blocks : {b : ℕ} → blocker set p ≡ some b → role set p b ≡ blocks
+  pub role_blocks : {b : ℕ} → blocker set p ≡ Some b → role set p b ≡ blocks
   unfolding below_own
   role_blocks {b} e = role_below b (blocker_is set p e).below ∙ rw (e, below_own, eq-eqb b b refl)
 
@@ -80,11 +81,11 @@ module _ (set : List Task) (p : ℕ) where
   role_of q = go (dec_le (suc q) p) (ℕ_discrete q p)
     where
       below : p < q → Answer (blocker set p) → RoleOf set p q
-      below h (nothing e) = is_absent h (λ x. none-ne-some q (sym e ∙ x)) (role_below q h ∙ rw e)
+      below h (nothing e) = is_absent h (λ x. none_ne_some q (sym e ∙ x)) (role_below q h ∙ rw e)
       below h (it_is b e) = named (ℕ_discrete q b)
         where
           named : Dec (q ≡ b) → RoleOf set p q
-          named (yes same) = is_blocker h (e ∙ ap some (sym same)) (role_below q h ∙ rw (e, below_own, eq-eqb q b same))
+          named (yes same) = is_blocker h (e ∙ ap Some (sym same)) (role_below q h ∙ rw (e, below_own, eq-eqb q b same))
           named (no ne) = is_absent h (λ x. ne (cc)) (role_below q h ∙ rw (e, below_own, ne_eqb q b ne))
 
       go : Dec (q < p) → Dec (q ≡ p) → RoleOf set p q
@@ -107,15 +108,15 @@ module _ (set : List Task) (p k : ℕ) where
   unfolding worst_run worst_release
   release_blocker b t e = rw e
 
-  pub release_absent : (q t : ℕ) → role set p q ≡ absent → ((worst_run set p k).input t).release_of q ≡ none
+  pub release_absent : (q t : ℕ) → role set p q ≡ absent → ((worst_run set p k).input t).release_of q ≡ None
   unfolding worst_run worst_release
   release_absent q t e = rw e
 
   -- nothing at or above place p is released before tick 1
-  pub none_at_zero : (q : ℕ) → q ≤ p → ((worst_run set p k).input 0).release_of q ≡ none
+  pub none_at_zero : (q : ℕ) → q ≤ p → ((worst_run set p k).input 0).release_of q ≡ None
   none_at_zero q h = go (ℕ_discrete q p)
     where
-      go : Dec (q ≡ p) → ((worst_run set p k).input 0).release_of q ≡ none
+      go : Dec (q ≡ p) → ((worst_run set p k).input 0).release_of q ≡ None
       go (yes e) = rw e (release_own 0 ∙ once_else 1 _ 0 (λ z. omega arith))
       go (no ne) = release_above q 0 (omega arith) ∙ period_zero (task_at set q)
 

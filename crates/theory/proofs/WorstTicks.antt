@@ -1,6 +1,6 @@
 -- A tick at which no stretch starts, while every stretch under way is a lower task's with the work to fill it: exactly one unit is taken.
+use Rattle.std.specs.Prelude.{Some}
 use mathlib.Core.List.{List}
-use mathlib.Core.Option.{some}
 use mathlib.Core.Path.{◌≡◌, refl, sym, ◌∙◌, ap}
 use Prim.Native.Nat.{ℕ, zero, suc, pred, ◌+◌, ◌≤◌, ◌<◌}
 use native.Mathlib.Decide.{dec_le, ℕ_discrete}
@@ -52,12 +52,12 @@ now_starts new = refl
 
 module _ (s : State) where
   -- a stretch under way that is filled is one tick shorter
-  to_come_less : (n : ℕ) → s.to_come ≡ suc n → s.to_come ≤ oldest s s.owner → (tick (some s.owner) 0 s).to_come ≡ n
+  to_come_less : (n : ℕ) → s.to_come ≡ suc n → s.to_come ≤ oldest s s.owner → (tick (Some s.owner) 0 s).to_come ≡ n
   unfolding stretch_now
   to_come_less n e filled = tick_to_come s.owner 0 s ∙ rw e (stretch_filled (oldest s s.owner) n (omega arith))
 
   -- with none under way none is after the tick
-  to_come_none : (q : ℕ) → s.to_come ≡ 0 → (tick (some q) 0 s).to_come ≡ 0
+  to_come_none : (q : ℕ) → s.to_come ≡ 0 → (tick (Some q) 0 s).to_come ≡ 0
   unfolding stretch_now
   to_come_none q e = tick_to_come q 0 s ∙ rw e (stretch_none (pred (oldest s q)))
 
@@ -75,7 +75,7 @@ module _ (set : List Task) (p : ℕ) (s : State) (f : Foreign p s) where
             (le_trans (omega (arith, f.filled)) (serve_oldest (s.lanes s.owner).jobs));
       })
   foreign_tick (highest u e q l pend earlier) =
-      let none_after : (tick (some u) 0 s).to_come ≡ 0 = to_come_none s u e in
+      let none_after : (tick (Some u) 0 s).to_come ≡ 0 = to_come_none s u e in
       rw q (record { below = λ h. let z : ⊥ = omega arith in absurd z; filled = omega arith })
   foreign_tick (idle e q none_pending) = rw (tick_idle 0 s q) f
 
@@ -87,9 +87,9 @@ module _ (set : List Task) (p : ℕ) (s : State) (f : Foreign p s) where
     not_idle none_pending = omega (arith, none_pending p in_set, pending_here)
 
     -- a tick that goes to another task leaves the work pending
-    not_done : (u : ℕ) → (p ≡ u → ⊥) → total ((tick (some u) 0 s).lanes p).jobs ≡ 0 → ⊥
+    not_done : (u : ℕ) → (p ≡ u → ⊥) → total ((tick (Some u) 0 s).lanes p).jobs ≡ 0 → ⊥
     not_done u ne done =
-        let same : total ((tick (some u) 0 s).lanes p).jobs ≡ total (s.lanes p).jobs = ap (λ l. total l.jobs) (tick_others u 0 s p ne) in
+        let same : total ((tick (Some u) 0 s).lanes p).jobs ≡ total (s.lanes p).jobs = ap (λ l. total l.jobs) (tick_others u 0 s p ne) in
         omega arith
 
     -- while the task at place p has work pending, the tick takes one unit of the stretch or of the work at or above place p
@@ -108,14 +108,14 @@ module _ (set : List Task) (p : ℕ) (s : State) (f : Foreign p s) where
     nothing_left (in_stretch n e q) done = absurd (not_done s.owner (λ own. omega (arith, f.below (omega arith))) (rw q at done))
     nothing_left (highest u e q l pend earlier) done = rw q (go (ℕ_discrete p u) (rw q at done))
       where
-        go : Dec (p ≡ u) → total ((tick (some u) 0 s).lanes p).jobs ≡ 0 → load p (tick (some u) 0 s) ≡ 0
+        go : Dec (p ≡ u) → total ((tick (Some u) 0 s).lanes p).jobs ≡ 0 → load p (tick (Some u) 0 s) ≡ 0
         go (no ne) gone = absurd (not_done u ne gone)
         go (yes own) gone =
-            let nothing : pending_work p (tick (some u) 0 s) ≡ 0 = sum_eq (suc p) (λ v h. each v h (ℕ_discrete v u)) ∙ sum_none (suc p) in
+            let nothing : pending_work p (tick (Some u) 0 s) ≡ 0 = sum_eq (suc p) (λ v h. each v h (ℕ_discrete v u)) ∙ sum_none (suc p) in
             omega (arith, to_come_none s u e)
           where
-            each : (v : ℕ) → v < suc p → Dec (v ≡ u) → total ((tick (some u) 0 s).lanes v).jobs ≡ 0
-            each v h (yes same) = ap (λ x. total ((tick (some u) 0 s).lanes x).jobs) (same ∙ sym own) ∙ gone
+            each : (v : ℕ) → v < suc p → Dec (v ≡ u) → total ((tick (Some u) 0 s).lanes v).jobs ≡ 0
+            each v h (yes same) = ap (λ x. total ((tick (Some u) 0 s).lanes x).jobs) (same ∙ sym own) ∙ gone
             each v h (no ne) = rw (tick_others u 0 s v ne) (oldest_none (s.lanes v).jobs (earlier v (omega arith)))
     nothing_left (idle e q none_pending) done = absurd (not_idle none_pending)
 

@@ -1,6 +1,5 @@
 -- SCOPE.md, "The analysis": blocking, demand, response times, the verdict. Tasks stand in priority order, place 0 is highest.
-use Rattle.std.specs.Prelude.{Bool, not, ◌&&◌, List, [], ◌∷◌, map, ◌≡◌, ℕ, zero, suc, ◌+◌, ◌-◌, ◌/◌, ◌≤◌, ◌<◌, leb, length, take, drop}
-use Rattle.std.proofs.Math.Option.{Option, none, some}
+use Rattle.std.specs.Prelude.{Bool, not, ◌&&◌, List, [], ◌∷◌, map, ◌≡◌, ℕ, zero, suc, ◌+◌, ◌-◌, ◌/◌, ◌≤◌, ◌<◌, leb, length, take, drop, None, Option, Some}
 use Rattle.theory.specs.First.{first, every, found}
 use Rattle.theory.specs.Tasks.{Task, task_at, frame_count, frame, work, largest, start_frame, deadline_of}
 
@@ -82,8 +81,8 @@ passes set p = every 0 (frame_count (task_at set p)) (λ k. found (response_of s
 -- k is the first frame of the task at place p without a response time
 pub record FirstWithout (set : List Task) (p k : ℕ) : Type 0 where
   pub frame_in : k < frame_count (task_at set p)
-  pub without : response_of set p k ≡ none
-  pub earlier_have : (j : ℕ) → j < k → (R : ℕ) × (response_of set p j ≡ some R)
+  pub without : response_of set p k ≡ None
+  pub earlier_have : (j : ℕ) → j < k → (R : ℕ) × (response_of set p j ≡ Some R)
 
 -- the answer for a set
 pub data Verdict : Type 0 where
@@ -92,4 +91,4 @@ pub data Verdict : Type 0 where
 
 -- holds where every task passes; else the first task in priority order that does not, and its blocker
 unfoldable pub verdict : List Task → Verdict
-verdict set = elim (first 0 (length set) (λ p. not (passes set p))) [ none ↦ holds | some p ↦ missed p (blocker set p) ]
+verdict set = elim (first 0 (length set) (λ p. not (passes set p))) [ None ↦ holds | Some p ↦ missed p (blocker set p) ]

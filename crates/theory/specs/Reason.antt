@@ -1,7 +1,6 @@
 -- SCOPE.md, "Why there is no start": for the lowest-numbered largest frame, the shortest length at which another frame's sum is greater, and the
 -- lowest-numbered such frame.
-use Rattle.std.specs.Prelude.{Bool, ℕ, ◌≤◌, ◌<◌, ltb}
-use Rattle.std.proofs.Math.Option.{Option, get_or}
+use Rattle.std.specs.Prelude.{Bool, ℕ, ◌≤◌, ◌<◌, ltb, Option, unwrap_or}
 use Rattle.theory.specs.First.{first, found}
 use Rattle.theory.specs.Tasks.{Task, frame_count, frame, work, largest_frame}
 
@@ -19,11 +18,11 @@ exceeded t s = first 1 (frame_count t) (λ n. found (exceeding t s n))
 
 -- that length for the lowest-numbered largest frame; 0 if there is none
 unfoldable pub exceeded_length : Task → ℕ
-exceeded_length t = get_or (exceeded t (largest_frame t)) 0
+exceeded_length t = unwrap_or (exceeded t (largest_frame t)) 0
 
 -- the frame that exceeds it at that length; 0 if there is none
 unfoldable pub exceeding_frame : Task → ℕ
-exceeding_frame t = get_or (exceeding t (largest_frame t) (exceeded_length t)) 0
+exceeding_frame t = unwrap_or (exceeding t (largest_frame t) (exceeded_length t)) 0
 
 -- Frame s, length n and frame k are the reason: no other numbers are.
 pub record IsReason (t : Task) (s n k : ℕ) : Type 0 where

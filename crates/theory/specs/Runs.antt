@@ -1,7 +1,6 @@
 -- SCOPE.md, "Runs". Tasks stand in priority order, place 0 is highest; a lane is what a run has of one task.
-use Rattle.std.specs.Prelude.{Bool, true, false, ◌≡◌, ℕ, zero, suc, pred, ◌+◌, ◌≤◌, ◌<◌, ltb, eqb, length}
+use Rattle.std.specs.Prelude.{Bool, true, false, ◌≡◌, ℕ, zero, suc, pred, ◌+◌, ◌≤◌, ◌<◌, ltb, eqb, length, None, Option, Some}
 use mathlib.Core.List.{List, [], ◌∷◌, ◌++◌, Memᴰ}
-use Rattle.std.proofs.Math.Option.{Option, none, some}
 use Rattle.theory.specs.First.{first}
 use Rattle.theory.specs.Tasks.{Task, task_at, frame_count, frame, next_frame, deadline_of}
 
@@ -36,8 +35,8 @@ pub record Run : Type 0 where
 
 -- a lane after a release, if there is one: the job stands last, the next job takes the next frame, a period later at the earliest
 unfoldable pub release_lane : Task → ℕ → Option ℕ → Lane → Lane
-release_lane t now none l = l
-release_lane t now (some w) l =
+release_lane t now None l = l
+release_lane t now (Some w) l =
     record { jobs = l.jobs ++ (job now l.next w ∷ []); next = next_frame t l.next; free_from = now + t.period }
 
 -- the releases of all tasks at a tick
@@ -59,7 +58,7 @@ pending l = ltb 0 (oldest_left l.jobs)
 
 -- the place whose job has the tick: the owner of a stretch under way, else the highest place with a pending job; none where the tick is idle
 unfoldable pub pick : List Task → State → Option ℕ
-pick set s = elim s.to_come [ zero ↦ first 0 (length set) (λ p. pending (s.lanes p)) | suc n ↦ some s.owner ]
+pick set s = elim s.to_come [ zero ↦ first 0 (length set) (λ p. pending (s.lanes p)) | suc n ↦ Some s.owner ]
 
 -- ---- then the tick itself
 
@@ -86,8 +85,8 @@ stretch_after (suc left) length = pred length
 
 -- the state after the tick, which went to the place picked
 unfoldable pub tick : Option ℕ → ℕ → State → State
-tick none new s = s
-tick (some p) new s =
+tick None new s = s
+tick (Some p) new s =
     record {
       lanes = λ q. serve_lane (eqb q p) (s.lanes q);
       owner = p;
@@ -116,15 +115,15 @@ seen_at set run t = release set t (run.input t) (state_at set run t)
 -- the longest stretch that may start with a tick: the Q of the place picked; none while one is under way, none with an idle tick
 unfoldable pub longest_stretch : List Task → ℕ → Option ℕ → ℕ
 longest_stretch set (suc n) picked = 0
-longest_stretch set zero none = 0
-longest_stretch set zero (some p) = (task_at set p).lock
+longest_stretch set zero None = 0
+longest_stretch set zero (Some p) = (task_at set p).lock
 
 -- what the run rules ask of the choices at a tick
 pub record LegalTick (set : List Task) (run : Run) (t : ℕ) : Type 0 where
   -- releases of a task are at least its period apart
-  pub apart : (p w : ℕ) → p < length set → (run.input t).release_of p ≡ some w → ((state_at set run t).lanes p).free_from ≤ t
+  pub apart : (p w : ℕ) → p < length set → (run.input t).release_of p ≡ Some w → ((state_at set run t).lanes p).free_from ≤ t
   -- a job has at most its frame's time as work
-  pub work_fits : (p w : ℕ) → p < length set → (run.input t).release_of p ≡ some w → w ≤ frame (task_at set p) ((state_at set run t).lanes p).next
+  pub work_fits : (p w : ℕ) → p < length set → (run.input t).release_of p ≡ Some w → w ≤ frame (task_at set p) ((state_at set run t).lanes p).next
   -- a stretch that starts is no longer than it may be
   pub stretch_fits : (run.input t).stretch ≤ longest_stretch set (seen_at set run t).to_come (pick set (seen_at set run t))
 

@@ -1,6 +1,5 @@
 -- SCOPE.md, "A task and a set": a task, its frames going round, its start frame, and when a set is admitted.
-use Rattle.std.specs.Prelude.{Bool, List, [], ◌∷◌, ◌≡◌, ℕ, zero, suc, ◌+◌, ◌%◌, ◌≤◌, ◌<◌, min, max, leb, eqb, length, get_or}
-use Rattle.std.proofs.Math.Option
+use Rattle.std.specs.Prelude.{Bool, List, [], ◌∷◌, ◌≡◌, ℕ, zero, suc, ◌+◌, ◌%◌, ◌≤◌, ◌<◌, min, max, leb, eqb, length, get_or, unwrap_or}
 use Rattle.theory.specs.First.{first, every}
 
 -- a task: the least distance of its releases, the longest locked stretch, and frame by frame the time of a job and how long it may take
@@ -52,7 +51,7 @@ largest (c ∷ cs) = max c (largest cs)
 
 -- the lowest-numbered largest frame
 unfoldable pub largest_frame : Task → ℕ
-largest_frame t = Option.get_or (first 0 (frame_count t) (λ k. eqb (frame t k) (largest t.frames))) 0
+largest_frame t = unwrap_or (first 0 (frame_count t) (λ k. eqb (frame t k) (largest t.frames))) 0
 
 -- A frame qualifies as start if no other frame begins a greater sum, at any length up to a whole round.
 unfoldable pub Qualifies : Task → ℕ → Type 0
@@ -64,7 +63,7 @@ qualifies t s = every 1 (frame_count t) (λ n. every 0 (frame_count t) (λ k. le
 
 -- the start frame: the lowest-numbered that qualifies
 unfoldable pub start_frame : Task → ℕ
-start_frame t = Option.get_or (first 0 (frame_count t) (qualifies t)) 0
+start_frame t = unwrap_or (first 0 (frame_count t) (qualifies t)) 0
 
 -- well formed: there is a frame, each has a deadline, takes at least one tick, at most its deadline, and that is at most the period
 pub record WellFormed (t : Task) : Type 0 where

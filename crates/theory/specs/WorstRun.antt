@@ -1,6 +1,5 @@
 -- SCOPE.md, "Runs": the worst run of a frame, as a run that computes.
-use Rattle.std.specs.Prelude.{true, false, List, ℕ, zero, suc, ◌+◌, ◌/◌, ◌%◌, ltb, eqb}
-use Rattle.std.proofs.Math.Option.{Option, none, some}
+use Rattle.std.specs.Prelude.{true, false, List, ℕ, zero, suc, ◌+◌, ◌/◌, ◌%◌, ltb, eqb, None, Option, Some}
 use Rattle.theory.specs.Tasks.{Task, task_at, frame, start_frame, largest_frame, deadline_of}
 use Rattle.theory.specs.Analysis.{blocker}
 use Rattle.theory.specs.Runs.{Run}
@@ -11,8 +10,8 @@ pub data Role : Type 0 where
 
 -- a lower task is the blocker, if that is named, or has no release
 unfoldable pub below_own : Option ℕ → ℕ → Role
-below_own none q = absent
-below_own (some b) q = elim (eqb q b) [ true ↦ blocks | false ↦ absent ]
+below_own None q = absent
+below_own (Some b) q = elim (eqb q b) [ true ↦ blocks | false ↦ absent ]
 
 -- the role of the task at place q to the task at place p
 unfoldable pub role : List Task → ℕ → ℕ → Role
@@ -27,25 +26,25 @@ worst_first t k absent = 0
 
 -- one release, at a tick, with that work
 unfoldable pub once : ℕ → ℕ → ℕ → Option ℕ
-once at w now = elim (eqb now at) [ true ↦ some w | false ↦ none ]
+once at w now = elim (eqb now at) [ true ↦ Some w | false ↦ None ]
 
 -- releases from tick 1 on, a period apart, with full work
 unfoldable pub every_period : Task → ℕ → Option ℕ
-every_period t zero = none
-every_period t (suc n) = elim (eqb (n % t.period) 0) [ true ↦ some (frame t (start_frame t + n / t.period)) | false ↦ none ]
+every_period t zero = None
+every_period t (suc n) = elim (eqb (n % t.period) 0) [ true ↦ Some (frame t (start_frame t + n / t.period)) | false ↦ None ]
 
 -- the releases: the blocker's before all others, with as much work as it may lock; the frame's own job with its full time
 unfoldable pub worst_release : Task → ℕ → Role → ℕ → Option ℕ
 worst_release t k above now = every_period t now
 worst_release t k own now = once 1 (frame t k) now
 worst_release t k blocks now = once 0 t.lock now
-worst_release t k absent now = none
+worst_release t k absent now = None
 
 -- the only stretch is the blocker's, as long as it may be
 unfoldable pub worst_stretch : List Task → Option ℕ → ℕ → ℕ
-worst_stretch set none now = 0
-worst_stretch set (some b) zero = (task_at set b).lock
-worst_stretch set (some b) (suc n) = 0
+worst_stretch set None now = 0
+worst_stretch set (Some b) zero = (task_at set b).lock
+worst_stretch set (Some b) (suc n) = 0
 
 -- the worst run of frame k of the task at place p; it ends with the deadline of the frame's job
 unfoldable pub worst_run : List Task → ℕ → ℕ → Run

@@ -1,10 +1,10 @@
 -- The one number of an answer fits 64 bits: refusals name tasks, frames and lengths below 32, and what else is answered is small.
+use Rattle.std.specs.Prelude.{None, Ok, Option, Result, Some}
 use mathlib.Core.Bool.{Bool}
 use mathlib.Core.List.{List, map}
 use mathlib.Core.Logic.{inl, inr}
-use mathlib.Core.Option.{none, some}
 use mathlib.Core.Path.{◌≡◌, refl, sym, subst, ap, ◌∙◌}
-use Prim.Native.Nat.{ℕ, ◌≤◌, ◌<◌, ◌^◌, min, zero-le}
+use Prim.Native.Nat.{ℕ, ◌*◌, ◌≤◌, ◌<◌, ◌^◌, min, zero-le}
 use native.Mathlib.Decide.{dec_lt}
 use native.Mathlib.Nat.{le_of_lt, min-le_left, min-le_right}
 use native.Mathlib.Omega.{arith}
@@ -17,8 +17,8 @@ use Rattle.sheet.specs.Tasks.{task_in, records_of, blank_record}
 use Rattle.sheet.specs.Refusals.{task_of_refusal, no_reason, reason_of_refusal}
 use Rattle.records.specs.Rows.{unpacked}
 use Rattle.sheet.specs.Layout.{header_in, behind_header}
-use Rattle.lent.specs.Checks.{Check}
-use Rattle.lent.specs.Lent.{answered}
+use Rattle.lent.specs.Checks.{Check, first_refusal}
+use Rattle.lent.specs.Lent.{Call, answered}
 use Rattle.lent.proofs.Checks.{Each, each_first}
 use Rattle.lent.proofs.Laid.{laid_to_length, laid_most}
 use Rattle.lent.proofs.Lent.{Told, turned_away, is_done, told, each_refusal}
@@ -28,29 +28,24 @@ use Rattle.sheet.specs.Reading.{sheet_checks, version_of, policy_of, tasks_of}
 use Rattle.sheet.specs.Writing.{writing_checks, writing, written}
 use Rattle.sheet.specs.declared.Refusal.{Refusal}
 use Rattle.sheet.specs.declared.Refusal.TheVariants.{Length, CheckWord, Version, Policy, BitSet, TaskCount, FrameCount, Records, IllFormed, Lock, Room, Deadlines}
-use Rattle.sheet.specs.declared.Answer.TheVariants.{Admitted}
 use Rattle.sheet.proofs.Analysable.{admitted_sheet_is_admitted}
 use Rattle.sheet.proofs.Checks.{admits}
 use Rattle.sheet.proofs.Counts.{known_small}
 use Rattle.sheet.proofs.Small.{number_small}
 use Rattle.sheet.specs.declared.TaskSet.{TaskSet}
-use Rattle.sheet.specs.declared.Written.{Written}
-use Rattle.sheet.specs.declared.Written.TheVariants.{TurnedAway as not_written}
 use Rattle.sheet.specs.declared.Task.{Task as Record}
 use Rattle.theory.specs.Tasks.{Task, task_at, frame_count}
 use Rattle.theory.specs.Analysis.{Verdict, holds, missed, verdict}
 use Rattle.order.specs.Order.{priority_order, ordered_set}
 use Rattle.order.proofs.Order.{order_permutes}
 use Rattle.analysis.specs.Times.{number_at, blocker_number, verdict_number, outcome_of}
-use Rattle.analysis.specs.Answers.{refused_decision, analysing, set_analysing, set_decision, sheet_analysing, sheet_decision}
-use Rattle.analysis.specs.declared.Decision.{Decision}
+use Rattle.analysis.specs.Answers.{analysing, set_analysing, set_decision, sheet_analysing, sheet_decision}
 use Rattle.analysis.proofs.Numbering.{number_in}
 use Rattle.theory.proofs.Laws.{reason_within}
 use Rattle.sheet.proofs.Refused.{Covers, list_each, sheet_each, writing_each}
 use Rattle.sheet.proofs.RoundTrip.{version_small}
 use Rattle.sheet.proofs.WhatIsWritten.{passed_checks}
 use Rattle.sheet.proofs.Carried.{by_reading, passed_sheet}
-use Rattle.sheet.proofs.Carried.{reading_answer as answer_read}
 use Rattle.records.proofs.Packing.{value_taken}
 use Rattle.sheet.proofs.RecordBits.{length_tasks_in}
 use Rattle.sheet.proofs.Sizes.{admitted_size}
@@ -58,9 +53,7 @@ use Rattle.lists.specs.Lists.{gathered_of}
 use Rattle.converter.specs.Converting.{converting_checks, converting, converted}
 use Rattle.converter.proofs.Outcomes.{converting_each, convertible, conversion_few}
 use Rattle.lists.specs.Faces.{list_analysed, list_written, reading_list, list_read}
-use Rattle.lists.specs.declared.ListRead.{ListRead}
-use Rattle.lists.specs.declared.ListRead.TheVariants.{TurnedAway as not_read}
-use Rattle.workbench.specs.Numbers.{refused_number, read_number, written_number, outcome_number, decision_number, play_refused_number, played_number, worst_number}
+use Rattle.workbench.specs.Numbers.{byte, answer_number, refused_number, play_refused_number, read_detail, written_detail, verdict_detail, decision_detail, worst_detail, read_number, written_number, decision_number, played_number, worst_number}
 use Rattle.report_text.specs.Text.{reporting, report_written}
 use Rattle.report_text.proofs.Reported.{report_fits}
 use Rattle.lists.proofs.Faces.{written_gathered, decision_gathered}
@@ -69,11 +62,8 @@ use Rattle.player.specs.declared.PlayRefusal.{PlayRefusal}
 use Rattle.player.specs.declared.Played.{Played}
 use Rattle.player.proofs.Within.{RefusalWithin, own_within, script_within, item_within, Within, missed_within, done_within, turned_within, played_within, traced_within}
 use Rattle.analysis.specs.Misses.{miss_in}
-use Rattle.analysis.specs.declared.Miss.{Miss}
-use Rattle.analysis.specs.declared.Miss.TheVariants.{Nothing, Frame}
+use Rattle.analysis.specs.declared.MissedFrame.{MissedFrame}
 use Rattle.worst.specs.Writing.{worst_bytes, worst_says, writing_by, worst_writing, worst_answer}
-use Rattle.worst.specs.declared.Worst.{Worst}
-use Rattle.worst.specs.declared.Worst.TheVariants.{TurnedAway as no_worst}
 use Rattle.worst.proofs.Shown.{worst_bytes_few, most_bytes_are}
 
 -- ---- what refusals name
@@ -124,6 +114,17 @@ room_names = names 32 Room (lit< tt) refl
 refusal_small : (r : Refusal) → NamesBelow 32 r → refused_number r < 2 ^ 64
 refusal_small r h = omega (arith, number_small r, h.task, h.frame, h.length, h.other)
 
+-- ---- the number of a call's answer
+
+module _ {A X : Type 0} (call : Call Refusal A X) (room : List A) (detail : X → ℕ) (named : Names 32 call.checks) where
+  -- it fits if what is said does: each refusal names numbers below 32
+  pub answer_small : (first_refusal call.checks ≡ None → length call.writes ≤ length room → byte * detail call.says < 2 ^ 64) → answer_number detail refused_number (answered Room call room) < 2 ^ 64
+  answer_small fits = go (told Room call room)
+    where
+      go : Told Room call room → answer_number detail refused_number (answered Room call room) < 2 ^ 64
+      go (is_done d) = rw d.answer (fits d.admitted d.room)
+      go (turned_away r t) = rw t.answer (refusal_small r (each_refusal Room call room (NamesBelow 32) named room_names r t.why))
+
 -- ---- a list written
 
 gathered_length : (policy : ℕ) (list : List Record) → length (gathered_of policy list).tasks ≡ most_tasks
@@ -158,18 +159,10 @@ module _ (policy : ℕ) (list : List Record) (room : List ℕ) where
 pub written_small : (version policy : ℕ) (list : List Record) (room : List ℕ) → written_number (list_written version policy list room) < 2 ^ 64
 unfolding written writing gathered_of
 written_small version policy list room =
-    subst (λ (w : Written). written_number w < 2 ^ 64) (written_gathered version policy list room) (go (told Room not_written (writing version (set policy list room)) room))
-  where
-    the_set : TaskSet
-    the_set = set policy list room
-
-    go : Told Room not_written (writing version the_set) room → written_number (written version the_set room) < 2 ^ 64
-    go (is_done d) =
-        let writable = passed_checks version the_set (admits _ d.admitted) in
-        let size = admitted_size version the_set (gathered_length policy list) writable.admitted in
-        subst (λ (w : Written). written_number w < 2 ^ 64) (sym d.answer) (omega arith)
-    go (turned_away r t) =
-        subst (λ (w : Written). written_number w < 2 ^ 64) (sym t.answer) (refusal_small r (each_refusal Room not_written (writing version the_set) room (NamesBelow 32) (writing_names policy list room version) room_names r t.why))
+    rw (← written_gathered version policy list room)
+    (answer_small (writing version (set policy list room)) room written_detail (writing_names policy list room version)
+    (λ e _. let writable = passed_checks version (set policy list room) (admits _ e) in
+    omega (arith, admitted_size version (set policy list room) (gathered_length policy list) writable.admitted)))
 
 -- ---- tasks analysed
 
@@ -184,32 +177,24 @@ number_few policy tasks p = go (dec_lt p (length tasks))
         let long : length (priority_order policy tasks) ≤ p = omega (arith, (order_permutes policy tasks).same_length) in
         subst (λ (k : ℕ). k ≤ length tasks) (sym (get_or-eq_default (priority_order policy tasks) 0 long)) zero-le
 
-outcome_small : (order : List ℕ) (v : Verdict) (n : ℕ) → n ≤ 32 → ((p : ℕ) → number_at order p ≤ 32) → outcome_number (verdict_number order v) n < 2 ^ 64
+found_small : (order : List ℕ) (v : Verdict) → ((p : ℕ) → number_at order p ≤ 32) → verdict_detail (verdict_number order v) ≤ 1000
 unfolding verdict_number blocker_number
-outcome_small order holds n h few = omega arith
-outcome_small order (missed p none) n h few = let i = few p in omega arith
-outcome_small order (missed p (some b)) n h few = let i = few p in let j = few b in omega arith
+found_small order holds few = omega arith
+found_small order (missed p None) few = let i = few p in omega arith
+found_small order (missed p (Some b)) few = let i = few p in let j = few b in omega arith
 
 module _ (checks : List (Check Refusal)) (policy : ℕ) (tasks : List Task) (room : List ℕ) (all_named : Names 32 checks) (few : length tasks ≤ 32) where
-  abbrev Fits : Decision → Type 0
-  Fits d = decision_number d < 2 ^ 64
-
-  decided_small : Fits (answered Room refused_decision (analysing checks policy tasks) room)
+  decided_small : decision_number (answered Room (analysing checks policy tasks) room) < 2 ^ 64
   unfolding analysing outcome_of
-  decided_small = go (told Room refused_decision (analysing checks policy tasks) room)
-    where
-      go : Told Room refused_decision (analysing checks policy tasks) room → Fits (answered Room refused_decision (analysing checks policy tasks) room)
-      go (is_done d) =
-          subst Fits (sym d.answer)
-          (outcome_small (priority_order policy tasks) (verdict (ordered_set policy tasks)) (length tasks) few (λ p. omega (arith, number_few policy tasks p)))
-      go (turned_away r t) =
-          subst Fits (sym t.answer) (refusal_small r (each_refusal Room refused_decision (analysing checks policy tasks) room (NamesBelow 32) all_named room_names r t.why))
+  decided_small =
+      answer_small (analysing checks policy tasks) room decision_detail all_named
+      (λ _ _. omega (arith, few, found_small (priority_order policy tasks) (verdict (ordered_set policy tasks)) (λ p. omega (arith, number_few policy tasks p))))
 
 pub list_small : (policy : ℕ) (list : List Record) (room : List ℕ) → decision_number (list_analysed policy list room) < 2 ^ 64
 unfolding set_decision set_analysing gathered_of
 list_small policy list room =
     let records : List Record = records_of (gathered_of policy list) in
-    subst (λ (d : Decision). decision_number d < 2 ^ 64) (decision_gathered policy list room)
+    rw (← decision_gathered policy list room)
     (decided_small _ policy (map task_in records) room (row_names policy list room) (omega (arith, records_few policy list room, length-map records task_in)))
 
 -- ---- a sheet read and analysed
@@ -238,14 +223,11 @@ module _ (s : List ℕ) where
 
   pub read_small : (list : List Record) → read_number (list_read s list) < 2 ^ 64
   unfolding list_read reading_list
-  read_small list = go (told Room not_read (reading_list s) list)
-    where
-      go : Told Room not_read (reading_list s) list → read_number (list_read s list) < 2 ^ 64
-      go (is_done d) =
-          let c = by_reading s (answer_read s ∙ admits (sheet_checks s) d.admitted) in
-          subst (λ (x : ListRead). read_number x < 2 ^ 64) (sym d.answer) (omega (arith, known_small (policy_of s) c.policy_known, c.few_tasks, version_small (version_of s) (passed_sheet s (answer_read s ∙ admits (sheet_checks s) d.admitted)).version_known))
-      go (turned_away r t) =
-          subst (λ (x : ListRead). read_number x < 2 ^ 64) (sym t.answer) (refusal_small r (each_refusal Room not_read (reading_list s) list (NamesBelow 32) sheet_names room_names r t.why))
+  read_small list =
+      answer_small (reading_list s) list read_detail sheet_names
+      (λ e _. let admitted = admits (sheet_checks s) e in
+      let c = by_reading s admitted in
+      omega (arith, known_small (policy_of s) c.policy_known, c.few_tasks, version_small (version_of s) (passed_sheet s admitted).version_known))
 
 -- ---- a sheet converted
 
@@ -254,24 +236,14 @@ converting_names version s = converting_each version s deadlines_named (few_name
 
 pub converted_small : (version : ℕ) (s room : List ℕ) → written_number (converted version s room) < 2 ^ 64
 unfolding converted converting
-converted_small version s room = go (told Room not_written (converting version s) room)
-  where
-    go : Told Room not_written (converting version s) room → written_number (converted version s room) < 2 ^ 64
-    go (is_done d) =
-        subst (λ (w : Written). written_number w < 2 ^ 64) (sym d.answer) (omega (arith, conversion_few version s ((convertible version s).0 d.admitted)))
-    go (turned_away r t) =
-        subst (λ (w : Written). written_number w < 2 ^ 64) (sym t.answer) (refusal_small r (each_refusal Room not_written (converting version s) room (NamesBelow 32) (converting_names version s) room_names r t.why))
+converted_small version s room =
+    answer_small (converting version s) room written_detail (converting_names version s) (λ e _. omega (arith, conversion_few version s ((convertible version s).0 e)))
 
 -- ---- a report
 
 pub report_small : (s room : List ℕ) → written_number (report_written s room) < 2 ^ 64
 unfolding report_written reporting
-report_small s room = go (told Room not_written (reporting s) room)
-  where
-    go : Told Room not_written (reporting s) room → written_number (report_written s room) < 2 ^ 64
-    go (is_done d) = subst (λ (w : Written). written_number w < 2 ^ 64) (sym d.answer) (omega (arith, report_fits s))
-    go (turned_away r t) =
-        subst (λ (w : Written). written_number w < 2 ^ 64) (sym t.answer) (refusal_small r (each_refusal Room not_written (reporting s) room (NamesBelow 32) tt room_names r t.why))
+report_small s room = answer_small (reporting s) room written_detail tt (λ _ _. omega (arith, report_fits s))
 
 -- ---- a play and its trace
 
@@ -282,7 +254,7 @@ module _ (sheet script : List ℕ) where
   why_small _ script_within = lit< tt
   why_small _ (item_within j h) = omega arith
 
-  within_small : (p : Played) → Within sheet script p → played_number p < 2 ^ 64
+  within_small : (p : Result Played PlayRefusal) → Within sheet script p → played_number p < 2 ^ 64
   within_small _ (missed_within t i h l) = omega arith
   within_small _ (done_within t h) = omega arith
   within_small _ (turned_within r h) = why_small r h
@@ -296,18 +268,11 @@ module _ (sheet script : List ℕ) where
 -- ---- a worst run
 
 module _ (s room : List ℕ) where
-  says_small : decided (sheet_checks s) ≡ Admitted → (m : Miss) → miss_in (ordered_set (policy_of s) (tasks_of s)) ≡ m → worst_number (worst_says (policy_of s) (tasks_of s) m) < 2 ^ 64
+  says_small : decided (sheet_checks s) ≡ Ok tt → (m : Option MissedFrame) → miss_in (ordered_set (policy_of s) (tasks_of s)) ≡ m → byte * worst_detail (worst_says (policy_of s) (tasks_of s) m) < 2 ^ 64
   unfolding worst_says worst_bytes
-  says_small a Nothing e = lit< tt
-  says_small a (Frame p k) e =
-      let admits_it = answer_read s ∙ a in
-      omega (arith, most_bytes_are, worst_bytes_few (policy_of s) (tasks_of s) (by_reading s admits_it) (admitted_sheet_is_admitted s admits_it) p k e)
+  says_small a None e = lit< tt
+  says_small a (Some m) e = omega (arith, most_bytes_are, worst_bytes_few (policy_of s) (tasks_of s) (by_reading s a) (admitted_sheet_is_admitted s a) m.place m.frame e)
 
   pub worst_small : worst_number (worst_answer s room) < 2 ^ 64
   unfolding worst_answer worst_writing writing_by
-  worst_small = go (told Room no_worst (worst_writing s) room)
-    where
-      go : Told Room no_worst (worst_writing s) room → worst_number (worst_answer s room) < 2 ^ 64
-      go (is_done d) = subst (λ (w : Worst). worst_number w < 2 ^ 64) (sym d.answer) (says_small (admits (sheet_checks s) d.admitted) _ refl)
-      go (turned_away r t) =
-          subst (λ (w : Worst). worst_number w < 2 ^ 64) (sym t.answer) (refusal_small r (each_refusal Room no_worst (worst_writing s) room (NamesBelow 32) (sheet_names s) room_names r t.why))
+  worst_small = answer_small (worst_writing s) room worst_detail (sheet_names s) (λ e _. says_small (admits (sheet_checks s) e) _ refl)

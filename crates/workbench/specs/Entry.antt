@@ -3,12 +3,12 @@ use Rattle.std.specs.Prelude.{List, [], ◌∷◌, ◌++◌, ℕ, ◌*◌}
 use Rattle.bits.specs.Packed.{digits, bytes_of}
 use Rattle.lent.specs.Lent.{Call, answered, left_after}
 use Rattle.sheet.specs.Constants.{most_frames}
-use Rattle.sheet.specs.Refusals.{number_of}
 use Rattle.sheet.specs.Reading.{sheet_checks, policy_of, tasks_of}
 use Rattle.sheet.specs.declared.Refusal.{Refusal}
 use Rattle.sheet.specs.declared.Refusal.TheVariants.{Room}
 use Rattle.analysis.specs.Times.{outcome_of, times_of}
 use Rattle.analysis.specs.Answers.{code}
+use Rattle.analysis.specs.declared.Verdict.{Verdict}
 
 -- how many bytes a time takes, and all times of a task
 abbrev pub time_size : ℕ
@@ -22,18 +22,13 @@ unfoldable pub as_bytes : List ℕ → List ℕ
 as_bytes [] = []
 as_bytes (t ∷ ts) = bytes_of time_size (digits 32 t) ++ as_bytes ts
 
--- checking a sheet: its own refusals, its times in four bytes each, its outcome's number
-unfoldable pub checking : List ℕ → Call Refusal ℕ ℕ
-checking s =
-    record {
-      checks = sheet_checks s;
-      writes = as_bytes (times_of (policy_of s) (tasks_of s));
-      says = code (outcome_of (policy_of s) (tasks_of s));
-    }
+-- checking a sheet: its own refusals, its times in four bytes each, its verdict
+unfoldable pub checking : List ℕ → Call Refusal ℕ Verdict
+checking s = record { checks = sheet_checks s; writes = as_bytes (times_of (policy_of s) (tasks_of s)); says = outcome_of (policy_of s) (tasks_of s) }
 
 -- the number that the C program gets
 unfoldable pub entry_number : List ℕ → List ℕ → ℕ
-entry_number s room = answered Room number_of (checking s) room
+entry_number s room = code (answered Room (checking s) room)
 
 -- what its room for the times holds afterwards
 unfoldable pub entry_left : List ℕ → List ℕ → List ℕ

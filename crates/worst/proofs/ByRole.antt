@@ -1,5 +1,5 @@
 -- The releases of a task by its role, as they are planned: those of the worst run, and sound.
-use mathlib.Core.Option.{some}
+use Rattle.std.specs.Prelude.{Some}
 use mathlib.Core.Path.{◌≡◌, refl, sym, ap, ◌∙◌}
 use Prim.Native.Nat.{ℕ, zero, suc, ◌+◌, ◌*◌, ◌/◌, ◌%◌, ◌≤◌, ◌<◌}
 use native.Mathlib.Decide.{ℕ_discrete}
@@ -33,7 +33,7 @@ once_same t series end es now l = go (ℕ_discrete now series.opens)
     go (yes e) =
         ap (series_release t series) (e ∙ sym first)
         ∙ release_at t series (omega arith) 0
-        ∙ ap (λ (k : ℕ). some (work_with t k series.lock)) (add-zero series.next)
+        ∙ ap (λ (k : ℕ). Some (work_with t k series.lock)) (add-zero series.next)
         ∙ sym (ap (once series.opens (work_with t series.next series.lock)) e ∙ once_at series.opens (work_with t series.next series.lock))
     go (no n) = release_none t series (omega arith) now (λ c e. n (later c e)) ∙ sym (once_else series.opens (work_with t series.next series.lock) now n)
 
@@ -56,7 +56,7 @@ module _ (t : Task) (k end : ℕ) where
       go (yes e) =
           ap (series_release t (planned above)) (now_is e)
           ∙ release_at t (planned above) positive (n / t.period)
-          ∙ ap some (sym (work_free t (start_frame t + n / t.period) 0 refl))
+          ∙ ap Some (sym (work_free t (start_frame t + n / t.period) 0 refl))
           ∙ sym (rw (eq-eqb (n % t.period) 0 e, every_period) refl)
       go (no ne) = release_none t (planned above) positive (suc n) (never ne) ∙ sym (rw (ne_eqb (n % t.period) 0 ne, every_period) refl)
 

@@ -5,14 +5,15 @@ use Prim.Native.Nat.{ℕ, zero, suc, ◌+◌, ◌*◌, ◌≤◌, ◌<◌, zero-
 use native.Mathlib.Decide.{dec_le, ℕ_discrete}
 use native.Mathlib.Numerals.{add-one}
 use native.Mathlib.Omega.{arith}
-use lib.ListN.{length, length-append}
+use lib.ListN.{length, get_or, take, length-append}
+use lib.Seq.{get_or-take, length-take-le}
 use Rattle.theory.proofs.Places.{sum_below}
 use Rattle.sheet.specs.Constants.{greatest_time}
 use Rattle.analysis.specs.Findings.{in_turn}
 use Rattle.plays.specs.WorstScript.{entry_row}
 use Rattle.plays.specs.declared.Entry.{Entry}
 use Rattle.worst.specs.declared.Plan.{Plan}
-use Rattle.worst.specs.Inside.Plans.{work_with, releases_to, SoundSeries, plan_series, plan_task, SoundPlan, plan_row, tick_row, plan_entries, count_to}
+use Rattle.worst.specs.Inside.Plans.{no_series, work_with, releases_to, SoundSeries, plan_series, plan_task, SoundPlan, plan_row, tick_row, plan_entries, count_to}
 use Rattle.worst.proofs.Releases.{tick_of, release_at, Reached, reached_none, reached_later, reached_more, quiet, counted}
 use Rattle.plays.proofs.InTurn.{turn_zero, turn_more, turn_sum}
 
@@ -63,11 +64,16 @@ module _ (pl : Plan) (i : ℕ) (sound : SoundSeries pl.end (plan_task pl i) (pla
       go c r (yes h) = h
       go c r (no h) = let b = r.behind pl.end (omega arith) in let z : ⊥ = omega (arith, sound.few) in absurd z
 
-module _ (pl : Plan) (i total r : ℕ) (et : total ≡ count_to pl i) (er : r ≡ releases_to (plan_series pl i).opens (plan_series pl i).step pl.end) where
+-- as many tasks as the plan has
+pub planned : (pl : Plan) → SoundPlan pl → length (take pl.count pl.series) ≡ pl.count
+planned pl sound = length-take-le pl.count pl.series (omega (arith, sound.room, sound.few_tasks))
+
+module _ (pl : Plan) (i total r : ℕ) (h : i < pl.count) (et : total ≡ count_to pl i)
+    (er : r ≡ releases_to (get_or (take pl.count pl.series) i no_series).opens (get_or (take pl.count pl.series) i no_series).step pl.end) where
   -- one task more
   pub count_more : total + r ≡ count_to pl (i + 1)
   unfolding count_to
-  count_more = ap₂ ◌+◌ et er ∙ ap (count_to pl) (sym (add-one i))
+  count_more = ap₂ ◌+◌ et (rw (get_or-take pl.count pl.series i no_series h) at er) ∙ ap (count_to pl) (sym (add-one i))
 
 module _ (pl : Plan) (sound : SoundPlan pl) where
   -- before the first task nothing is counted

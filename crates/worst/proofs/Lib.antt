@@ -1,7 +1,6 @@
 -- The laws behind the worst run written, from the releases of one task to the outcomes of the call.
 pub mod Releases
 pub mod JobWork
-pub mod Next
 pub mod Counts
 pub mod Putting
 pub mod Roles

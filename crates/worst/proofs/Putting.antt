@@ -4,7 +4,7 @@ use mathlib.Core.List.{List, [], ◌∷◌, ◌++◌, append-nil, append_assoc}
 use mathlib.Core.Path.{◌≡◌, refl, sym, ap, ◌∙◌}
 use Prim.Native.Nat.{ℕ, zero, suc, ◌+◌, ◌^◌, ◌≤◌, ◌<◌}
 use native.Mathlib.Omega.{arith}
-use lib.ListN.{length, get_or, take, length-append}
+use lib.ListN.{length, get_or, take, length-append, length-map, get_or-map}
 use lib.Seq.{get_or-take, length-take-le}
 use Rattle.records.specs.Rows.{packed}
 use Rattle.records.specs.Faces.{end_of, lawful, row_fits}
@@ -19,7 +19,8 @@ use Rattle.scripts.specs.Format.{first_frame_width, first_frame_widths, count_wi
 use Rattle.scripts.specs.Writing.{entry_numbers, entries_bits, EntryFits}
 use Rattle.scripts.proofs.ScriptBits.{fit_alike, fit_entry}
 use Rattle.worst.specs.declared.Plan.{Plan}
-use Rattle.worst.specs.Inside.Plans.{SoundPlan, plan_entries, head_bits}
+use Rattle.worst.specs.declared.Series.{Series}
+use Rattle.worst.specs.Inside.Plans.{no_series, plan_series, SoundPlan, plan_entries, plan_firsts, head_bits}
 use Rattle.worst.proofs.Counts.{entries_few}
 
 -- ---- one entry
@@ -61,12 +62,17 @@ count_lawful : lawful count_widths ≡ true
 unfolding lawful
 count_lawful = refl
 
-module _ (pl : Plan) (sound : SoundPlan pl) (long : length pl.next ≡ most_tasks) where
+module _ (pl : Plan) (sound : SoundPlan pl) where
   abbrev firsts : List ℕ
-  firsts = take pl.count pl.next
+  firsts = plan_firsts pl
 
-  as_many : length firsts ≡ pl.count
-  as_many = length-take-le pl.count pl.next (omega (arith, sound.few_tasks))
+  pub as_many : length (plan_firsts pl) ≡ pl.count
+  as_many = length-map (take pl.count pl.series) (λ series. series.next) ∙ length-take-le pl.count pl.series (omega (arith, sound.room, sound.few_tasks))
+
+  -- the first frame of task i
+  pub first_at : (i : ℕ) → i < pl.count → get_or firsts i 0 ≡ (plan_series pl i).next
+  first_at i h =
+      get_or-map (λ series. series.next) (take pl.count pl.series) i no_series ∙ ap (λ (x : Series). x.next) (get_or-take pl.count pl.series i no_series h)
 
   abbrev first_bits : List Bool
   first_bits = packed (first_frame_widths (length firsts)) firsts
@@ -78,7 +84,7 @@ module _ (pl : Plan) (sound : SoundPlan pl) (long : length pl.next ≡ most_task
   first_small i h =
       let there : i < pl.count = omega (arith, as_many) in
       let s = sound.each i there in
-      rw (get_or-take pl.count pl.next i 0 there) (omega (arith, s.next_in, s.few_frames))
+      rw (first_at i there) (omega (arith, s.next_in, s.few_frames))
 
   widths_are : (ws : List ℕ) → ws ≡ first_frame_widths most_tasks → take pl.count ws ≡ first_frame_widths (length firsts)
   widths_are ws ew = ap (take pl.count) ew ∙ take_replicate pl.count most_tasks first_frame_width sound.few_tasks ∙ ap first_frame_widths (sym as_many)

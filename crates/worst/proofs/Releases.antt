@@ -1,5 +1,5 @@
 -- The releases of one task, from the first on and a step apart: at their ticks, between them, and how many there are.
-use mathlib.Core.Option.{none, some}
+use Rattle.std.specs.Prelude.{None, Some}
 use mathlib.Core.Path.{◌≡◌, ap}
 use Prim.Native.Nat.{ℕ, zero, suc, ◌+◌, ◌-◌, ◌*◌, ◌/◌, ◌%◌, ◌≤◌, ◌<◌, zero-le}
 use native.Mathlib.Decide.{dec_le, dec_lt, ℕ_discrete}
@@ -16,18 +16,18 @@ tick_of series c = series.opens + c * series.step
 
 module _ (t : Task) (series : Series) (positive : 1 ≤ series.step) where
   -- at the tick of release c the job of that release is released
-  pub release_at : (c : ℕ) → series_release t series (tick_of series c) ≡ some (work_with t (series.next + c) series.lock)
+  pub release_at : (c : ℕ) → series_release t series (tick_of series c) ≡ Some (work_with t (series.next + c) series.lock)
   unfolding series_release
   release_at c =
       let past : tick_of series c - series.opens ≡ c * series.step = omega arith in
       rw (le-leb series.opens (tick_of series c) (omega arith), past, mul-mod_left c series.step, mul-div_left c positive)
 
   -- at any other tick nothing is released
-  pub release_none : (now : ℕ) → ((c : ℕ) → tick_of series c ≡ now → ⊥) → series_release t series now ≡ none
+  pub release_none : (now : ℕ) → ((c : ℕ) → tick_of series c ≡ now → ⊥) → series_release t series now ≡ None
   unfolding series_release
   release_none now h = go (dec_le series.opens now) (ℕ_discrete ((now - series.opens) % series.step) 0)
     where
-      go : Dec (series.opens ≤ now) → Dec ((now - series.opens) % series.step ≡ 0) → series_release t series now ≡ none
+      go : Dec (series.opens ≤ now) → Dec ((now - series.opens) % series.step ≡ 0) → series_release t series now ≡ None
       go (yes l) (yes e) = absurd (h ((now - series.opens) / series.step) (omega (arith, div-add-mod' (now - series.opens) series.step)))
       go (yes l) (no ne) = rw (le-leb series.opens now l, ne_eqb ((now - series.opens) % series.step) 0 ne)
       go (no l) d = rw (lt-leb series.opens now (omega arith))
@@ -59,7 +59,7 @@ module _ (series : Series) (positive : 1 ≤ series.step) where
       go j h (no ne) = let b = r.behind j (omega arith) in omega arith
 
   -- no release between two
-  pub quiet : (t : Task) {u c : ℕ} → Reached series u c → (v : ℕ) → u ≤ v → v < tick_of series c → series_release t series v ≡ none
+  pub quiet : (t : Task) {u c : ℕ} → Reached series u c → (v : ℕ) → u ≤ v → v < tick_of series c → series_release t series v ≡ None
   quiet t {u} {c} r v l m = release_none t series positive v (λ j e. go j e (dec_lt j c))
     where
       go : (j : ℕ) → tick_of series j ≡ v → Dec (j < c) → ⊥

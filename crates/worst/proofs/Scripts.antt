@@ -1,17 +1,16 @@
 -- The script that is planned for a missed set is the worst script, and it can be counted and written.
+use Rattle.std.specs.Prelude.{Ok, Option, Some}
 use mathlib.Core.List.{List, map}
-use mathlib.Core.Option.{Option, some}
 use mathlib.Core.Path.{◌≡◌, refl, sym, ap, ap₂, ◌∙◌}
 use Prim.Native.Nat.{ℕ, zero, suc, ◌+◌, ◌≤◌, ◌<◌}
 use native.Mathlib.Nat.{add-zero, add-suc, suc-add, zero-add}
 use native.Mathlib.Omega.{arith}
-use lib.ListN.{length, get_or, take}
-use lib.Seq.{get_or-take, length-take-le, ext_get_or}
+use lib.ListN.{length, get_or}
+use lib.Seq.{ext_get_or}
 use Rattle.theory.specs.Tasks.{Task, task_at, deadline_of, AdmittedTask}
 use Rattle.theory.specs.Analysis.{blocker, FirstWithout}
 use Rattle.theory.specs.WorstRun.{Role, own, blocks, role, worst_first}
 use Rattle.theory.proofs.Work.{deadline_positive}
-use Rattle.theory.proofs.Search.{Answer, answer, nothing, it_is}
 use Rattle.theory.proofs.Blocking.{blocker_is}
 use Rattle.theory.proofs.Verdict.{IsMissed}
 use Rattle.theory.proofs.WorstReleases.{RoleOf, is_above, is_own, is_blocker, is_absent, role_of}
@@ -20,28 +19,22 @@ use Rattle.sheet.specs.Tasks.{task_in, records_of, no_record}
 use Rattle.sheet.specs.Admission.{admission}
 use Rattle.sheet.specs.declared.Task.{Task as Record}
 use Rattle.sheet.specs.declared.TaskSet.{TaskSet}
-use Rattle.sheet.specs.declared.Answer.TheVariants.{Admitted}
 use Rattle.sheet.proofs.InFields.{InFields}
 use Rattle.sheet.proofs.Carried.{Carried, carried_fit, by_admission, count_in_use}
 use Rattle.sheet.proofs.Analysable.{each_at, admitted_set_is_admitted}
 use Rattle.order.specs.Claims.{Permutes}
 use Rattle.order.specs.Order.{priority_order, ordered_set}
-use Rattle.order.specs.Ordered.{ordered, tasks_in_order, blocker_answer, blocker_at}
-use Rattle.order.specs.declared.Blocker.{Blocker}
+use Rattle.order.specs.Ordered.{ordered, tasks_in_order, numbers_of, blocker_at}
 use Rattle.order.specs.declared.Ordered.{Ordered}
 use Rattle.order.proofs.Order.{order_permutes}
 use Rattle.order.proofs.Laws.{ordered_tasks, ordered_length, ordered_at}
 use Rattle.order.proofs.Records.{task_there}
 use Rattle.analysis.specs.Times.{number_at, place_of}
 use Rattle.analysis.specs.Findings.{in_turn}
-use Rattle.analysis.specs.Answers.{blocker_code}
 use Rattle.analysis.specs.Misses.{miss_in}
-use Rattle.analysis.specs.Inside.Steps.{numbers_of}
-use Rattle.analysis.specs.declared.Miss.TheVariants.{Frame}
 use Rattle.analysis.proofs.ByNumber.{turn_same}
 use Rattle.analysis.proofs.Entries.{numbers_are, few}
-use Rattle.analysis.proofs.MissedFrame.{miss_names}
-use Rattle.analysis.proofs.InUse.{task_is as record_is}
+use Rattle.analysis.proofs.MissedFrames.{miss_names}
 use Rattle.analysis.proofs.Numbering.{place_in, number_back}
 use Rattle.plays.specs.Script.{Script}
 use Rattle.plays.specs.WorstScript.{entry_row, role_of_task, worst_row, worst_firsts, worst_script}
@@ -49,9 +42,10 @@ use Rattle.plays.specs.declared.Entry.{Entry}
 use Rattle.worst.specs.declared.Case.{Case}
 use Rattle.worst.specs.declared.Series.{Series}
 use Rattle.worst.specs.declared.Plan.{Plan}
-use Rattle.worst.specs.Inside.Plans.{series_for, role_by, series_release, SoundSeries, plan_series, plan_task, SoundPlan, plan_row, tick_row, plan_entries, plan_script}
+use Rattle.worst.specs.Inside.Plans.{series_for, role_by, series_release, SoundSeries, plan_series, plan_task, SoundPlan, plan_row, tick_row, plan_entries, plan_firsts, plan_script}
 use Rattle.worst.specs.Inside.Steps.{PlanFor}
-use Rattle.worst.proofs.Roles.{by_above, by_own, by_blocks, by_absent}
+use Rattle.worst.proofs.Planning.{nowhere, place_is}
+use Rattle.worst.proofs.Putting.{as_many, first_at}
 use Rattle.worst.proofs.ByRole.{release_same, lock_same, first_same, series_sound}
 
 -- a series and a script by their parts
@@ -61,49 +55,32 @@ sound_by ex et ev h = rw (ex, et, ev) h
 script_by : {fs gs : List ℕ} {es hs : List Entry} → fs ≡ gs → es ≡ hs → ◌≡◌ {A = Script} (record { firsts = fs; entries = es }) (record { firsts = gs; entries = hs })
 script_by ef eh = rw (ef, eh) refl
 
--- ---- the role by the blocker's place
+-- ---- what follows from a role
+
+-- the role of a task is told by the place of the blocker
+role_same : (set : List Task) (p q : ℕ) → role_by p (blocker set p) q ≡ role set p q
+unfolding role_by role
+role_same set p q = refl
 
 module _ (set : List Task) (p : ℕ) where
-  abbrev place_code : ℕ
-  place_code = blocker_code (blocker_answer (blocker set p))
-
-  code_at : (q : ℕ) → blocker set p ≡ some q → q ≡ place_code
-  code_at q e = sym (ap (λ (b : Option ℕ). blocker_code (blocker_answer b)) e)
-
-  code_else : (q : ℕ) → q < most_tasks → (blocker set p ≡ some q → ⊥) → q ≡ place_code → ⊥
-  code_else q h ne e = go (answer (blocker set p))
-    where
-      go : Answer (blocker set p) → ⊥
-      go (nothing x) = let c : place_code ≡ most_tasks = ap (λ (b : Option ℕ). blocker_code (blocker_answer b)) x in omega arith
-      go (it_is b x) = let c : place_code ≡ b = ap (λ (o : Option ℕ). blocker_code (blocker_answer o)) x in ne (x ∙ ap some (sym (e ∙ c)))
-
-  role_same : (q : ℕ) → q < most_tasks → role_by p place_code q ≡ role set p q
-  role_same q h = go (role_of set p q)
-    where
-      go : RoleOf set p q → role_by p place_code q ≡ role set p q
-      go (is_above l e) = by_above p place_code q l ∙ sym e
-      go (is_own s e) = by_own p place_code q (omega arith) s ∙ sym e
-      go (is_blocker l x e) = by_blocks p place_code q (omega arith) (λ s. omega arith) (code_at q x) ∙ sym e
-      go (is_absent l n e) = by_absent p place_code q (omega arith) (λ s. omega arith) (code_else q h n) ∙ sym e
-
   -- the blocker has a lock; the own task stands at that place
   blocks_lock : (q : ℕ) → role set p q ≡ blocks → 1 ≤ (task_at set q).lock
   blocks_lock q r = go (role_of set p q)
     where
       go : RoleOf set p q → 1 ≤ (task_at set q).lock
-      go (is_above l e) = let x = sym e ∙ r in let z : ◌≡◌ {A = ℕ} 0 1 = cc in let y : ⊥ = omega arith in absurd y
-      go (is_own s e) = let x = sym e ∙ r in let z : ◌≡◌ {A = ℕ} 0 1 = cc in let y : ⊥ = omega arith in absurd y
+      go (is_above l e) = let x = sym e ∙ r in cc
+      go (is_own s e) = let x = sym e ∙ r in cc
       go (is_blocker l x e) = omega (arith, (blocker_is set p x).locks)
-      go (is_absent l n e) = let x = sym e ∙ r in let z : ◌≡◌ {A = ℕ} 0 1 = cc in let y : ⊥ = omega arith in absurd y
+      go (is_absent l n e) = let x = sym e ∙ r in cc
 
   own_place : (q : ℕ) → role set p q ≡ own → q ≡ p
   own_place q r = go (role_of set p q)
     where
       go : RoleOf set p q → q ≡ p
-      go (is_above l e) = let x = sym e ∙ r in let z : ◌≡◌ {A = ℕ} 0 1 = cc in let y : ⊥ = omega arith in absurd y
+      go (is_above l e) = let x = sym e ∙ r in cc
       go (is_own s e) = s
-      go (is_blocker l x e) = let y = sym e ∙ r in let z : ◌≡◌ {A = ℕ} 0 1 = cc in let y : ⊥ = omega arith in absurd y
-      go (is_absent l n e) = let x = sym e ∙ r in let z : ◌≡◌ {A = ℕ} 0 1 = cc in let y : ⊥ = omega arith in absurd y
+      go (is_blocker l x e) = let y = sym e ∙ r in cc
+      go (is_absent l n e) = let x = sym e ∙ r in cc
 
 -- ---- first frames of the worst script
 
@@ -122,8 +99,8 @@ module _ (order : List ℕ) (tasks : List Task) (p k : ℕ) where
 
 -- ---- an admitted set that misses at place p with frame k, and the plan for it
 
-module _ (s : TaskSet) (room : length s.tasks ≡ most_tasks) (e : admission s ≡ Admitted) (p k : ℕ)
-    (miss : miss_in (ordered_set s.policy (map task_in (records_of s))) ≡ Frame p k) where
+module _ (s : TaskSet) (room : length s.tasks ≡ most_tasks) (e : admission s ≡ Ok tt) (p k : ℕ)
+    (miss : miss_in (ordered_set s.policy (map task_in (records_of s))) ≡ Some (record { place = p; frame = k })) where
   abbrev tasks : List Task
   tasks = map task_in (records_of s)
 
@@ -210,7 +187,7 @@ module _ (s : TaskSet) (room : length s.tasks ≡ most_tasks) (e : admission s �
     blocks_locks x = rw task_there_is at (blocks_lock set p q (sym role_is ∙ x))
 
   -- the ordered copy
-  module _ (o : Ordered) (eo : o ≡ ordered s) (long : length o.tasks ≡ most_tasks) where
+  module _ (o : Ordered) (eo : o ≡ ordered s) where
     order_is : tasks_in_order o ≡ set
     order_is = ap (λ (x : Ordered). tasks_in_order x) eo ∙ ordered_tasks s
 
@@ -218,10 +195,10 @@ module _ (s : TaskSet) (room : length s.tasks ≡ most_tasks) (e : admission s �
     pub order_stands : Permutes (length (tasks_in_order o)) (numbers_of o)
     order_stands = rw (order_is, ordered_length s.policy tasks, eo, numbers_are s room e) (order_permutes s.policy tasks)
 
-    own_is : task_in (get_or o.tasks p no_record) ≡ task_at set p
-    own_is = record_is o p no_record (rw order_is names.0.in_set) long ∙ ap (λ (l : List Task). task_at l p) order_is
+    own_is : task_in (get_or o.places p nowhere).task ≡ task_at set p
+    own_is = place_is o p (rw order_is names.0.in_set) ∙ ap (λ (l : List Task). task_at l p) order_is
 
-    module _ (d : ℕ) (is : d ≡ deadline_of (task_in (get_or o.tasks p no_record)) k) where
+    module _ (d : ℕ) (is : d ≡ deadline_of (task_in (get_or o.places p nowhere).task) k) where
       end_is : d ≡ D
       end_is = is ∙ ap (λ (t : Task). deadline_of t k) own_is
 
@@ -229,19 +206,19 @@ module _ (s : TaskSet) (room : length s.tasks ≡ most_tasks) (e : admission s �
       pub end_fits : d ≤ greatest_time
       end_fits = omega (arith, end_is, end_in.1)
 
-  module _ (o : Ordered) (eo : o ≡ ordered s) (full : length o.tasks ≡ most_tasks) (b d : ℕ) (x : Blocker) (eb : b ≡ blocker_code x) (ex : x ≡ blocker_at o p)
-      (is : d ≡ deadline_of (task_in (get_or o.tasks p no_record)) k) where
+  module _ (o : Ordered) (eo : o ≡ ordered s) (b : Option ℕ) (d : ℕ) (eb : b ≡ blocker_at o p)
+      (is : d ≡ deadline_of (task_in (get_or o.places p nowhere).task) k) where
     abbrev c : Case
     c = record { place = p; frame = k; blocker = b; end = d }
 
     ed : d ≡ D
-    ed = end_is o eo full d is
+    ed = end_is o eo d is
 
-    code_is : b ≡ place_code set p
+    blocker_is_so : b ≡ blocker set p
     unfolding blocker_at
-    code_is = eb ∙ ap blocker_code ex ∙ ap (λ (l : List Task). place_code l p) (order_is o eo full)
+    blocker_is_so = eb ∙ ap (λ (l : List Task). blocker l p) (order_is o eo)
 
-    module _ (pl : Plan) (given : PlanFor o s.tasks c pl) where
+    module _ (pl : Plan) (room_is : length pl.series ≡ most_tasks) (given : PlanFor o s.tasks c pl) where
       f : PlanFor (ordered s) s.tasks c pl
       f = rw eo at given
 
@@ -256,7 +233,7 @@ module _ (s : TaskSet) (room : length s.tasks ≡ most_tasks) (e : admission s �
         number_is = ap (λ (l : List ℕ). number_at l (q i h)) (numbers_are s room e) ∙ number_back n order (order_permutes s.policy tasks) i h
 
         placed_role : role_by p b (q i h) ≡ r i h
-        placed_role = ap (λ (x : ℕ). role_by p x (q i h)) code_is ∙ role_same set p (q i h) (omega (arith, q_in i h, carried.few_tasks)) ∙ sym (role_is i h)
+        placed_role = ap (λ (x : Option ℕ). role_by p x (q i h)) blocker_is_so ∙ role_same set p (q i h) ∙ sym (role_is i h)
 
         series_is : plan_series pl i ≡ series_for (task_at tasks i) k D (r i h)
         series_is =
@@ -269,7 +246,7 @@ module _ (s : TaskSet) (room : length s.tasks ≡ most_tasks) (e : admission s �
         unfolding records_of
         task_is =
             ap (λ (l : List Record). task_in (get_or l i no_record)) f.tasks_are
-            ∙ sym (task_there s.tasks s.task_count i no_record (omega (arith, count_in_use s room e)) (omega (arith, count_in_use s room e, carried.few_tasks)))
+            ∙ sym (task_there s.tasks s.task_count (omega (arith, count_in_use s room e, carried.few_tasks)) i no_record (omega (arith, count_in_use s room e)))
 
         row_same : (t : ℕ) → t ≤ D → plan_row pl t i ≡ worst_row order tasks p k t i
         unfolding plan_row worst_row
@@ -277,15 +254,26 @@ module _ (s : TaskSet) (room : length s.tasks ≡ most_tasks) (e : admission s �
             ap₂ (λ (series : Series) (task : Task). entry_row i t series.lock (series_release task series t)) series_is task_is
             ∙ ap₂ (entry_row i t) (lock_same (task_at tasks i) k D (r i h)) (release_same (task_at tasks i) k D (period_in i h) (r i h) (blocks_locks i h) t l)
 
-        first_is : get_or pl.next i 0 ≡ worst_first (task_at tasks i) k (r i h)
+        first_is : (plan_series pl i).next ≡ worst_first (task_at tasks i) k (r i h)
         first_is = ap (λ (series : Series). series.next) series_is ∙ first_same (task_at tasks i) k D (r i h)
 
-      firsts_same : length pl.next ≡ most_tasks → take pl.count pl.next ≡ worst_firsts order tasks p k 0 n
-      firsts_same long =
-          let all : length (take pl.count pl.next) ≡ n = length-take-le pl.count pl.next (omega (arith, count_same, carried.few_tasks)) ∙ count_same in
-          ext_get_or 0 (take pl.count pl.next) (worst_firsts order tasks p k 0 n) (all ∙ sym (firsts_length order tasks p k 0 n))
+      -- the plan can be counted and written
+      pub plan_sound : SoundPlan pl
+      plan_sound =
+          record {
+            some_task = omega (arith, count_same, carried.some_task);
+            few_tasks = omega (arith, count_same, carried.few_tasks);
+            end_fits = omega (arith, end_same, end_in.1);
+            room = room_is;
+            each = λ i l. let h : i < n = omega (arith, count_same) in sound_by end_same (task_is i h) (series_is i h) (task_sound i h);
+          }
+
+      firsts_same : plan_firsts pl ≡ worst_firsts order tasks p k 0 n
+      firsts_same =
+          let all : length (plan_firsts pl) ≡ n = as_many pl plan_sound ∙ count_same in
+          ext_get_or 0 (plan_firsts pl) (worst_firsts order tasks p k 0 n) (all ∙ sym (firsts_length order tasks p k 0 n))
           (λ i l. let h : i < n = omega arith in
-          get_or-take pl.count pl.next i 0 (omega (arith, count_same))
+          first_at pl plan_sound i (omega (arith, count_same))
           ∙ first_is i h
           ∙ sym (firsts_at order tasks p k 0 n i h ∙ ap (λ (x : ℕ). worst_first (task_at tasks x) k (role_of_task order tasks p k x)) (zero-add i)))
 
@@ -297,16 +285,6 @@ module _ (s : TaskSet) (room : length s.tasks ≡ most_tasks) (e : admission s �
           (λ t l. turn_same (plan_row pl t) (worst_row order tasks p k t) 0 n (λ i m. row_same i (omega arith) t (omega arith)))
 
       -- the script that is planned is the worst script
-      pub plan_is : length pl.next ≡ most_tasks → plan_script pl ≡ worst_script order tasks p k
+      pub plan_is : plan_script pl ≡ worst_script order tasks p k
       unfolding plan_script worst_script ordered_set
-      plan_is long = script_by (firsts_same long) entries_same
-
-      -- and it can be counted and written
-      pub plan_sound : SoundPlan pl
-      plan_sound =
-          record {
-            some_task = omega (arith, count_same, carried.some_task);
-            few_tasks = omega (arith, count_same, carried.few_tasks);
-            end_fits = omega (arith, end_same, end_in.1);
-            each = λ i l. let h : i < n = omega (arith, count_same) in sound_by end_same (task_is i h) (series_is i h) (task_sound i h);
-          }
+      plan_is = script_by firsts_same entries_same

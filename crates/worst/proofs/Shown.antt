@@ -1,7 +1,7 @@
 -- What the written bytes are: a script of which nothing is turned away, whose run is the worst run, and whose play ends with the miss.
+use Rattle.std.specs.Prelude.{None, Some}
 use mathlib.Core.Bool.{true}
 use mathlib.Core.List.{List, Memᴰ}
-use mathlib.Core.Option.{none, some}
 use mathlib.Core.Path.{◌≡◌, refl, ap}
 use Prim.Native.Nat.{ℕ, zero, suc, ◌+◌, ◌≤◌, ◌<◌}
 use native.Mathlib.Nat.{zero-add, le_trans}
@@ -22,8 +22,7 @@ use Rattle.order.proofs.Laws.{ordered_length, ordered_at, ordered_admitted}
 use Rattle.analysis.specs.Times.{number_at}
 use Rattle.analysis.proofs.Numbering.{number_in}
 use Rattle.analysis.specs.Misses.{miss_in}
-use Rattle.analysis.specs.declared.Miss.TheVariants.{Frame}
-use Rattle.analysis.proofs.MissedFrame.{miss_names}
+use Rattle.analysis.proofs.MissedFrames.{miss_names}
 use Rattle.plays.specs.Script.{Script}
 use Rattle.plays.specs.Items.{item_checks}
 use Rattle.plays.specs.ScriptRun.{script_run}
@@ -50,7 +49,7 @@ unfolding worst_firsts
 firsts_long order tasks p k i zero = refl
 firsts_long order tasks p k i (suc n) = ap suc (firsts_long order tasks p k (suc i) n)
 
-module _ (policy : ℕ) (tasks : List Task) (carried : Carried policy tasks) (admitted : Admitted tasks) (p k : ℕ) (e : miss_in (ordered_set policy tasks) ≡ Frame p k) where
+module _ (policy : ℕ) (tasks : List Task) (carried : Carried policy tasks) (admitted : Admitted tasks) (p k : ℕ) (e : miss_in (ordered_set policy tasks) ≡ Some (record { place = p; frame = k })) where
   abbrev order : List ℕ
   order = priority_order policy tasks
 
@@ -89,7 +88,7 @@ module _ (policy : ℕ) (tasks : List Task) (carried : Carried policy tasks) (ad
       let i_in : i < length tasks = number_in (length tasks) order (order_permutes policy tasks) p in_set in
       rw place_task (omega (arith, (admitted.each_task i i_in).well_formed.deadline_in_period k (rw place_task at k_in), (each_fits i i_in).period_fits))
 
-  kept : first_refusal (item_checks tasks sc) ≡ none
+  kept : first_refusal (item_checks tasks sc) ≡ None
   unfolding ordered_set
   kept = worst_script_sound order tasks carried.few_tasks (order_permutes policy tasks) (ordered_admitted policy tasks admitted) p in_set k k_in
 
@@ -134,7 +133,7 @@ module _ (policy : ℕ) (tasks : List Task) (carried : Carried policy tasks) (ad
   worst_reads_back = script_reads_back (length tasks) sc fits
 
   -- None of its items is turned away.
-  pub worst_kept : first_refusal (item_checks tasks (worst_script (priority_order policy tasks) tasks p k)) ≡ none
+  pub worst_kept : first_refusal (item_checks tasks (worst_script (priority_order policy tasks) tasks p k)) ≡ None
   worst_kept = kept
 
   -- Its run is the worst run.
@@ -147,7 +146,7 @@ module _ (policy : ℕ) (tasks : List Task) (carried : Carried policy tasks) (ad
   -- Its play ends with the miss of the named task, at 1 + D.
   pub worst_ends : (end_of_play (priority_order policy tasks) tasks (worst_script (priority_order policy tasks) tasks p k) ≡ suc (deadline_of (task_at (ordered_set policy tasks) p) k))
       × (misser (priority_order policy tasks) tasks (worst_script (priority_order policy tasks) tasks p k) (suc (deadline_of (task_at (ordered_set policy tasks) p) k))
-      ≡ some (number_at (priority_order policy tasks) p))
+      ≡ Some (number_at (priority_order policy tasks) p))
   unfolding ordered_set
   worst_ends =
       worst_play order tasks (order_permutes policy tasks) (ordered_admitted policy tasks admitted) p in_set k k_in (blocker set p) ((verdict_missed set).1 names.0) names.1 in_time

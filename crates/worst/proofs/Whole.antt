@@ -4,8 +4,7 @@ use mathlib.Core.List.{List, [], ◌∷◌, ◌++◌}
 use mathlib.Core.Path.{◌≡◌, refl, sym, ap, ap₂, ◌∙◌}
 use Prim.Native.Nat.{ℕ, ◌+◌, ◌≤◌}
 use native.Mathlib.Omega.{arith}
-use lib.ListN.{length, take, length-append, length-replicate}
-use lib.Seq.{length-take-le}
+use lib.ListN.{length, length-append, length-replicate}
 use Rattle.records.specs.Rows.{packed, total}
 use Rattle.records.specs.Sealed.{sealed_record, sealed_size}
 use Rattle.records.specs.Faces.{end_of, closed}
@@ -15,16 +14,16 @@ use Rattle.records.proofs.Packing.{length_packed}
 use Rattle.records.proofs.Placing.{placed_long, placed_behind}
 use Rattle.records.proofs.Putting.{room_behind, placed_first}
 use Rattle.records.proofs.RoundTrip.{closed_is}
-use Rattle.sheet.specs.Constants.{most_tasks}
 use Rattle.scripts.specs.Format.{first_frame_width, first_frame_widths, count_widths, script_width}
 use Rattle.scripts.specs.Writing.{entries_bits, script_bits, script_of}
 use Rattle.scripts.proofs.ScriptBits.{length_entries_bits}
 use Rattle.scripts.proofs.Widths.{width_is}
 use Rattle.worst.specs.declared.Plan.{Plan}
-use Rattle.worst.specs.Inside.Plans.{SoundPlan, plan_entries, plan_script, head_bits}
+use Rattle.worst.specs.Inside.Plans.{SoundPlan, plan_entries, plan_firsts, plan_script, head_bits}
 use Rattle.worst.proofs.Counts.{entries_few}
+use Rattle.worst.proofs.Putting.{as_many}
 
-module _ (pl : Plan) (sound : SoundPlan pl) (long : length pl.next ≡ most_tasks) where
+module _ (pl : Plan) (sound : SoundPlan pl) where
   -- the bits of its head and of its entries
   abbrev H : List Bool
   H = head_bits pl
@@ -42,11 +41,11 @@ module _ (pl : Plan) (sound : SoundPlan pl) (long : length pl.next ≡ most_task
   length_head : length H ≡ total (first_frame_widths pl.count) + total count_widths
   unfolding head_bits
   length_head =
-      let firsts = take pl.count pl.next in
+      let firsts = plan_firsts pl in
       length-append (packed (first_frame_widths (length firsts)) firsts) (packed count_widths (length (plan_entries pl) ∷ []))
       ∙ ap₂ ◌+◌
       (length_packed (first_frame_widths (length firsts)) firsts (length-replicate {A = ℕ} (length firsts) first_frame_width)
-      ∙ ap (λ (n : ℕ). total (first_frame_widths n)) (length-take-le pl.count pl.next (omega (arith, sound.few_tasks))))
+      ∙ ap (λ (n : ℕ). total (first_frame_widths n)) (as_many pl sound))
       (length_packed count_widths (length (plan_entries pl) ∷ []) refl)
 
   rows_width : length (H ++ E) ≡ script_width pl.count (length (plan_entries pl))

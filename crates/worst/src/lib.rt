@@ -1,7 +1,7 @@
 // The worst run of a missed set, written as a run script.
 #![tactic(auto)]
 
-ghost use Rattle.std.specs.Prelude.{map, ◌≡◌, ◌+◌, ◌≤◌, ◌<◌, length};
+ghost use Rattle.std.specs.Prelude.{map, ◌≡◌, ◌+◌, ◌^◌, ◌≤◌, ◌<◌, length, Some};
 ghost use Rattle.theory.specs.Tasks.{frame_count};
 ghost use Rattle.lent.specs.Lent.{answered, left_after};
 ghost use Rattle.records.specs.Rows.{packed};
@@ -9,54 +9,89 @@ ghost use Rattle.records.specs.Faces.{end_of};
 ghost use Rattle.records.specs.Inside.Steps.{Placed};
 ghost use Rattle.sheet.specs.Constants.{most_tasks, greatest_time};
 ghost use Rattle.sheet.specs.Tasks.{task_in, records_of};
-ghost use Rattle.sheet.specs.Admission.{admission};
-ghost use Rattle.sheet.specs.declared.Answer.TheVariants.{Admitted};
 ghost use Rattle.sheet.specs.declared.Refusal.TheVariants.{Room};
-ghost use Rattle.admission.specs.Judged.{shape_of, shapes_of};
+ghost use Rattle.admission.specs.Judged.{shape_of};
 ghost use Rattle.order.specs.Claims.{Permutes};
 ghost use Rattle.order.specs.Order.{ordered_set};
-ghost use Rattle.order.specs.Ordered.{tasks_in_order};
+ghost use Rattle.order.specs.Ordered.{tasks_in_order, numbers_of};
 ghost use Rattle.analysis.specs.Misses.{miss_in};
-ghost use Rattle.analysis.specs.Inside.Steps.{ShapesStand, numbers_of};
-ghost use Rattle.analysis.specs.declared.Miss.TheVariants.{Frame};
+ghost use Rattle.analysis.specs.Inside.Steps.{RightlyJudged, ShapesStand};
 ghost use Rattle.scripts.specs.Format.{entry_widths};
 ghost use Rattle.scripts.specs.Writing.{entry_numbers, entries_bits, script_of, EntryFits};
 ghost use Rattle.worst.specs.Writing.{worst_answer, worst_left};
-ghost use Rattle.worst.specs.Inside.Plans.{series_for, role_by, work_with, releases_to, SoundPlan, plan_entries, plan_script, head_bits};
+ghost use Rattle.worst.specs.Inside.Plans.{series_for, role_by, work_with, releases_to, next_entry, behind, SoundPlan, plan_entries, plan_script, head_bits};
 ghost use Rattle.worst.specs.Inside.Steps.{Soonest, PlanFor, set_writing};
-ghost use Rattle.worst.specs.declared.Worst.TheVariants.{TurnedAway};
 
-use admission::Shape;
-use analysis::Miss;
+use admission::{Judged, Shape};
+use analysis::MissedFrame;
 use order::Ordered;
 use plays::Entry;
 use scripts::Format;
-use sheet::{Answer, Refusal, Sheet, Task, TaskSet};
+use sheet::{Refusal, Sheet, Task};
 
-// What the call answers: the set holds, or so many bytes of its script were written, or the one refusal.
-#[derive(Clone, Copy)]
-pub enum Worst {
-    Holds,
-    Written(usize),
-    TurnedAway(Refusal),
-}
-
-// The frame whose worst run it is: the place of its task, the frame, the place of the blocker (that behind the last task's for none), and the deadline.
+// The frame whose worst run it is: the place of its task, the frame, the place of the blocker, and the deadline.
 #[derive(Clone, Copy)]
 struct Case {
     place: u32,
     frame: u32,
-    blocker: u32,
+    blocker: Option<u32>,
     end: u32,
 }
 
-// The releases of a task: the tick of the first, how far apart they are, the frame of the first job, and the lock.
-#[derive(Clone, Copy)]
+// The releases of a task: the tick of the next, how far apart they are, the frame of the next job, and the lock.
+#[derive(Clone, Copy, Default)]
 struct Series {
     opens: u32,
     step: u32,
     next: u32,
     lock: u32,
+}
+
+impl Series {
+    // How many releases there are up to a tick.
+    fn releases_to(self, end: u32) -> u32
+        requires { (1 ≤ self.step) × (end ≤ greatest_time) }
+        ensures { result ≡ releases_to self.opens self.step end }
+    {
+        if end < self.opens {
+            return 0;
+        }
+        (end - self.opens) / self.step + 1
+    }
+
+    // The work of the next job: the lock where there is one, else its frame's time.
+    fn work(self, task: Task) -> u32
+        requires { self.next < frame_count (task_in task) }
+        ensures { result ≡ work_with (task_in task) self.next self.lock }
+    {
+        if self.lock == 0 {
+            task.frames[self.next as usize]
+        } else {
+            self.lock
+        }
+    }
+
+    // The entry of the next release.
+    fn entry(self, number: u32, task: Task) -> Entry
+        requires { self.next < frame_count (task_in task) }
+        ensures { result ≡ next_entry number (task_in task) self }
+    {
+        Entry {
+            task: number,
+            tick: self.opens,
+            work: self.work(task),
+            lock: self.lock,
+        }
+    }
+
+    // Behind the next release.
+    fn advance(&mut self, task: Task)
+        requires { (self.old.next < frame_count (task_in task)) × (self.old.opens + self.old.step < 2 ^ 32) }
+        ensures { self.new ≡ behind (task_in task) self.old }
+    {
+        self.opens += self.step;
+        self.next = sheet::frame_after(task, self.next);
+    }
 }
 
 // The releases of all tasks by number, up to the tick `end`.
@@ -65,10 +100,7 @@ struct Plan {
     count: u32,
     end: u32,
     tasks: [Task; Sheet::TASK_ROOM],
-    opens: [u32; Sheet::TASK_ROOM],
-    step: [u32; Sheet::TASK_ROOM],
-    next: [u32; Sheet::TASK_ROOM],
-    lock: [u32; Sheet::TASK_ROOM],
+    series: [Series; Sheet::TASK_ROOM],
 }
 
 // The blocker is released before all others.
@@ -84,85 +116,55 @@ fn series_of(case: Case, q: u32, task: Task, shape: Shape) -> Series
     // behind the last tick of the run: there is no further release
     let behind = case.end + 1;
     if q < case.place {
-        return Series {
+        Series {
             opens: OTHERS_AT,
             step: task.period,
             next: shape.start,
             lock: 0,
-        };
-    }
-    if q == case.place {
-        return Series {
+        }
+    } else if q == case.place {
+        Series {
             opens: OTHERS_AT,
             step: behind,
             next: case.frame,
             lock: 0,
-        };
-    }
-    if q == case.blocker {
-        return Series {
+        }
+    } else if case.blocker == Some(q) {
+        Series {
             opens: BLOCKER_AT,
             step: behind,
             next: admission::largest_frame(task),
             lock: task.lock,
-        };
-    }
-    Series {
-        opens: behind,
-        step: behind,
-        next: 0,
-        lock: 0,
+        }
+    } else {
+        Series {
+            opens: behind,
+            step: behind,
+            next: 0,
+            lock: 0,
+        }
     }
 }
 
 // The releases of all tasks, each at its number.
-fn plan_for(
-    o: Ordered,
-    tasks: [Task; Sheet::TASK_ROOM],
-    shapes: [Shape; Sheet::TASK_ROOM],
-    case: Case,
-) -> Plan
-    requires { ShapesStand o shapes × Permutes (length (tasks_in_order o)) (numbers_of o) × (case.end ≤ greatest_time) }
-    ensures { PlanFor o tasks case result }
+fn plan_for(o: Ordered, judged: Judged, case: Case) -> Plan
+    requires stand { ShapesStand o judged.shapes }
+    requires numbered { Permutes (length (tasks_in_order o)) (numbers_of o) }
+    requires short { case.end ≤ greatest_time }
+    ensures { PlanFor o judged.set.tasks case result }
 {
-    let records = o.tasks;
-    let numbers = o.numbers;
-    let count = sheet::in_use(o.count as usize, Sheet::TASK_ROOM);
-    let mut opens = [0u32; Sheet::TASK_ROOM];
-    let mut step = [0u32; Sheet::TASK_ROOM];
-    let mut next = [0u32; Sheet::TASK_ROOM];
-    let mut lock = [0u32; Sheet::TASK_ROOM];
-    for q in 0..count {
-        let number = numbers[q];
-        let i = number as usize;
-        let task = records[q];
-        let shape = shapes[i];
-        let series = series_of(case, q as u32, task, shape);
-        opens[i] = series.opens;
-        step[i] = series.step;
-        next[i] = series.next;
-        lock[i] = series.lock;
+    let places = o.in_use();
+    let mut series = [Series::default(); Sheet::TASK_ROOM];
+    for (q, place) in places.iter().enumerate() {
+        let i = place.number as usize;
+        series[i] = series_of(case, q as u32, place.task, judged.shapes[i]);
     }
     Plan {
-        count: count as u32,
+        count: places.len() as u32,
         end: case.end,
-        tasks,
-        opens,
-        step,
-        next,
-        lock,
+        tasks: judged.set.tasks,
+        series,
     }
-}
-
-// How many releases there are up to a tick, from the first on and so far apart.
-fn releases_to(opens: u32, step: u32, end: u32) -> u32
-    requires { (1 ≤ step) × (end ≤ greatest_time) }
-    ensures { result ≡ releases_to opens step end }
-{
-    if end < opens {
-        return 0;
-    }
-    (end - opens) / step + 1
 }
 
 // How many entries a plan has.
@@ -170,12 +172,9 @@ fn entry_count(plan: Plan) -> u32
     requires { SoundPlan plan }
     ensures { result ≡ length (plan_entries plan) }
 {
-    let opens = plan.opens;
-    let step = plan.step;
-    let count = plan.count as usize;
-    let mut total: u32 = 0;
-    for i in 0..count {
-        total += releases_to(opens[i], step[i], plan.end);
+    let mut total = 0;
+    for series in &plan.series[..plan.count as usize] {
+        total += series.releases_to(plan.end);
     }
     total
 }
@@ -187,7 +186,7 @@ fn put_head(bytes: &mut [u8], plan: Plan, entries: u32) -> usize
 {
     let count = plan.count as usize;
     let per_task = Format::first_frame_widths();
-    let firsts = plan.next;
+    let firsts = plan.series.map(|series| series.next);
     let at = records::append_row(bytes, 0, &per_task[..count], &firsts[..count]);
     let widths = Format::count_widths();
     records::append_row(bytes, at, &widths, &[entries])
@@ -204,29 +203,17 @@ fn put_entry(bytes: &mut [u8], at: usize, entry: Entry) -> usize
 }
 
 // The task that is released next, of several the lowest-numbered.
-fn soonest(opens: &[u32; Sheet::TASK_ROOM], count: usize) -> usize
-    requires { (length opens.now ≡ most_tasks) × (1 ≤ count) × (count ≤ most_tasks) }
-    ensures { Soonest opens.now count result }
+fn soonest(series: &[Series]) -> usize
+    requires { 1 ≤ length series.now }
+    ensures { Soonest series.now result }
 {
-    let mut first: usize = 0;
-    for i in 1..count {
-        if opens[i] < opens[first] {
+    let mut first = 0;
+    for (i, next) in series.iter().enumerate() {
+        if next.opens < series[first].opens {
             first = i;
         }
     }
     first
-}
-
-// The work of a job of frame k: the lock where there is one, else the frame's time.
-fn work(task: Task, k: u32, lock: u32) -> u32
-    requires { k < frame_count (task_in task) }
-    ensures { result ≡ work_with (task_in task) k lock }
-{
-    let frames = task.frames;
-    if lock == 0 {
-        return frames[k as usize];
-    }
-    lock
 }
 
 // The entries in their order: each is of the task that is released next.
@@ -234,31 +221,15 @@ fn put_entries(bytes: &mut [u8], at: usize, plan: Plan) -> usize
     requires { SoundPlan plan × (at + length (entries_bits (plan_entries plan)) ≤ end_of (length bytes.old)) }
     ensures { Placed bytes.old at (entries_bits (plan_entries plan)) bytes.new result }
 {
-    let tasks = plan.tasks;
-    let steps = plan.step;
-    let locks = plan.lock;
-    let last = plan.end;
     let count = plan.count as usize;
-    let mut opens = plan.opens;
-    let mut next = plan.next;
+    let mut series = plan.series;
     let mut end = at;
-    let mut i = soonest(&opens, count);
-    let mut tick = opens[i];
-    while tick <= last {
-        let task = tasks[i];
-        let k = next[i];
-        let lock = locks[i];
-        let entry = Entry {
-            task: i as u32,
-            tick,
-            work: work(task, k, lock),
-            lock,
-        };
-        end = put_entry(bytes, end, entry);
-        opens[i] = tick + steps[i];
-        next[i] = sheet::frame_after(task, k);
-        i = soonest(&opens, count);
-        tick = opens[i];
+    let mut i = soonest(&series[..count]);
+    while series[i].opens <= plan.end {
+        let task = plan.tasks[i];
+        end = put_entry(bytes, end, series[i].entry(i as u32, task));
+        series[i].advance(task);
+        i = soonest(&series[..count]);
     }
     end
 }
@@ -273,58 +244,40 @@ fn put_script(bytes: &mut [u8], plan: Plan, entries: u32)
     records::close(bytes, end);
 }
 
-// The worst run of frame k of the task at place p of an admitted set, which misses there.
+// The worst run of the missed frame of an admitted set.
 fn write_frame(
-    set: TaskSet,
-    shapes: [Shape; Sheet::TASK_ROOM],
-    p: u32,
-    k: u32,
+    judged: Judged,
+    missed: MissedFrame,
     script: &mut [u8],
-) -> Worst
-    requires { (admission set ≡ Admitted) × (shapes ≡ shapes_of (map task_in (records_of set))) × (miss_in (ordered_set set.policy (map task_in (records_of set))) ≡ Frame p k) }
-    ensures { (result ≡ answered Room TurnedAway (set_writing set) script.old) × (script.new ≡ left_after Room (set_writing set) script.old) }
+) -> Result<Option<usize>, Refusal>
+    requires judged { RightlyJudged judged }
+    requires misses { miss_in (ordered_set judged.set.policy (map task_in (records_of judged.set))) ≡ Some missed }
+    ensures { (result ≡ answered Room (set_writing judged.set) script.old) × (script.new ≡ left_after Room (set_writing judged.set) script.old) }
 {
-    let o = order::in_order(set);
-    let tasks = set.tasks;
-    let records = o.tasks;
-    let own = records[p as usize];
+    let o = order::in_order(judged.set);
     let case = Case {
-        place: p,
-        frame: k,
-        blocker: analysis::blocker_code(order::blocker_of(o, p)),
-        end: sheet::deadline_of(own, k as usize),
+        place: missed.place,
+        frame: missed.frame,
+        blocker: order::blocker_of(o, missed.place),
+        end: sheet::deadline_of(o.places[missed.place as usize].task, missed.frame as usize),
     };
-    let plan = plan_for(o, tasks, shapes, case);
+    let plan = plan_for(o, judged, case);
     let entries = entry_count(plan);
     let size = scripts::script_size(plan.count, entries);
     if script.len() < size {
-        return Worst::TurnedAway(Refusal::Room);
+        return Err(Refusal::Room);
     }
     put_script(&mut script[..size], plan, entries);
-    Worst::Written(size)
+    Ok(Some(size))
 }
 
-// A set that holds is answered so, whatever the room.
-fn write_set(set: TaskSet, shapes: [Shape; Sheet::TASK_ROOM], script: &mut [u8]) -> Worst
-    requires { (admission set ≡ Admitted) × (shapes ≡ shapes_of (map task_in (records_of set))) }
-    ensures { (result ≡ answered Room TurnedAway (set_writing set) script.old) × (script.new ≡ left_after Room (set_writing set) script.old) }
-{
-    match analysis::missed_frame(set) {
-        Miss::Nothing => Worst::Holds,
-        Miss::Frame(p, k) => write_frame(set, shapes, p, k, script),
-    }
-}
-
-// Of a sheet whose set is missed, writes the worst run of the named task's first frame without a response time.
-pub fn worst_run(sheet: &[u8], script: &mut [u8]) -> Worst
+// Of a sheet whose set is missed, writes the worst run of the named task's first frame without a response time; a set that holds is answered so, whatever the room.
+pub fn worst_run(sheet: &[u8], script: &mut [u8]) -> Result<Option<usize>, Refusal>
     ensures { (result ≡ worst_answer sheet.now script.old) × (script.new ≡ worst_left sheet.now script.old) }
 {
-    let judged = reader::admit_sheet(sheet);
-    let answer = judged.answer;
-    if let Answer::Refused(why) = answer {
-        return Worst::TurnedAway(why);
+    let judged = reader::admit_sheet(sheet)?;
+    match analysis::missed_frame(judged.set) {
+        None => Ok(None),
+        Some(missed) => write_frame(judged, missed, script),
     }
-    let set = judged.set;
-    let shapes = judged.shapes;
-    write_set(set, shapes, script)
 }

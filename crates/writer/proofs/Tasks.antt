@@ -25,6 +25,12 @@ use Rattle.sheet.proofs.InFields.{InFields, range_of, time_fits, times_fit}
 use Rattle.sheet.proofs.RecordBits.{fixed_fit, frames_fit_in, length_task_bits}
 use Rattle.sheet.proofs.Lawful.{fixed_lawful, frames_lawful}
 
+-- ---- the arrays of a record have their eight slots
+
+pub record Slots (r : Record) : Type 0 where
+  pub frames : length r.frames ≡ most_frames
+  pub deadlines : length r.deadlines ≡ most_frames
+
 -- ---- the rows in use are the first of what there is
 
 -- the room for the frames of a record
@@ -35,52 +41,53 @@ pub fields_few : (own : Bool) (n : ℕ) → n ≤ most_frames → frame_fields o
 fields_few false n h = omega arith
 fields_few true n h = omega arith
 
-pub fixed_first : (own : Bool) (n : ℕ) (ws : List ℕ) → n ≡ length (fixed_widths own) → ws ≡ fixed_widths own ++ replicate (fixed_room - length (fixed_widths own)) 0
+-- so many of the slots are in use
+pub fields_long : (own : Bool) (n m : ℕ) → n ≤ most_frames → m ≡ frame_fields own * n → length (take m (replicate {A = ℕ} frame_slots 0)) ≡ m
+fields_long own n m h e = length-take-le m (replicate {A = ℕ} frame_slots 0) (omega (arith, fields_few own n h, e))
+
+fixed_first : (own : Bool) (n : ℕ) (ws : List ℕ) → n ≡ length (fixed_widths own) → ws ≡ fixed_widths own ++ replicate (fixed_room - length (fixed_widths own)) 0
     → take n ws ≡ fixed_widths own
 fixed_first own n ws e f = ap₂ take e f ∙ take_at (fixed_widths own) _ (length (fixed_widths own)) refl
 
-pub fixed_in_room : (own : Bool) (n : ℕ) (ws : List ℕ) → n ≡ length (fixed_widths own) → ws ≡ fixed_widths own ++ replicate (fixed_room - length (fixed_widths own)) 0
-    → n ≤ length ws
-fixed_in_room own n ws e f = rw (e, f, length-append (fixed_widths own) (replicate (fixed_room - length (fixed_widths own)) 0)) (omega arith)
-
 pub frames_first : (own : Bool) (n m : ℕ) (ws : List ℕ) → n ≤ most_frames → m ≡ frame_fields own * n → ws ≡ frame_widths true most_frames → take m ws ≡ frame_widths own n
 frames_first own n m ws h e f = ap₂ take e f ∙ take_replicate (frame_fields own * n) frame_slots time_width (fields_few own n h)
-
-pub frames_in_room : (own : Bool) (n m : ℕ) (ws : List ℕ) → n ≤ most_frames → m ≡ frame_fields own → ws ≡ frame_widths true most_frames → m * n ≤ length ws
-frames_in_room own n m ws few e f = rw (e, f) (fields_few own n few)
 
 numbers_long : (own : Bool) (r : Record) → length (fixed_numbers own (task_in r)) ≡ length (fixed_widths own)
 unfolding fixed_numbers
 numbers_long false r = refl
 numbers_long true r = refl
 
-pub numbers_first : (own : Bool) (r : Record) (n : ℕ) (xs : List ℕ) → n ≡ length (fixed_widths own)
+numbers_first : (own : Bool) (r : Record) (n : ℕ) (xs : List ℕ) → n ≡ length (fixed_widths own)
     → xs ≡ fixed_numbers own (task_in r) ++ replicate (fixed_room - length (fixed_widths own)) 0 → take n xs ≡ fixed_numbers own (task_in r)
 numbers_first own r n xs e f = ap₂ take e f ∙ take_at (fixed_numbers own (task_in r)) _ (length (fixed_widths own)) (numbers_long own r)
 
-pub numbers_in_room : (own : Bool) (r : Record) (n : ℕ) (xs : List ℕ) → n ≡ length (fixed_widths own)
-    → xs ≡ fixed_numbers own (task_in r) ++ replicate (fixed_room - length (fixed_widths own)) 0 → n ≤ length xs
-numbers_in_room own r n xs e f =
-    rw (e, f, length-append (fixed_numbers own (task_in r)) (replicate (fixed_room - length (fixed_widths own)) 0), numbers_long own r) (omega arith)
-
 -- ---- a record
 
-module _ (own : Bool) (r : Record) (few : r.frame_count ≤ most_frames) (frames_room : length r.frames ≡ most_frames) (deadlines_room : length r.deadlines ≡ most_frames) where
+-- the rows of widths and of numbers that stand for it: fixed part first, in room for the longest
+pub record Widths (own : Bool) (r : Record) (n m : ℕ) (ws fs : List ℕ) : Type 0 where
+  pub fixed_fields : n ≡ length (fixed_widths own)
+  pub fixed : ws ≡ fixed_widths own ++ replicate (fixed_room - length (fixed_widths own)) 0
+  pub frame_fields_of : m ≡ frame_fields own * r.frame_count
+  pub frames : fs ≡ frame_widths true most_frames
+
+pub record Numbers (own : Bool) (r : Record) (xs ys : List ℕ) : Type 0 where
+  pub fixed : xs ≡ fixed_numbers own (task_in r) ++ replicate (fixed_room - length (fixed_widths own)) 0
+  pub frames : take (frame_fields own * r.frame_count) ys ≡ frame_numbers own (task_in r)
+
+module _ (own : Bool) (r : Record) (few : r.frame_count ≤ most_frames) (slots : Slots r) where
   pub count_is : length (task_in r).frames ≡ r.frame_count
   unfolding task_in
-  count_is = length-take-le r.frame_count r.frames (rw frames_room few)
+  count_is = length-take-le r.frame_count r.frames (rw slots.frames few)
 
   many : AsMany (task_in r)
-  many = as_many_slots r frames_room deadlines_room
+  many = as_many_slots r slots.frames slots.deadlines
 
   -- how many bits it takes
   record_width : length (task_bits own (task_in r)) ≡ total (fixed_widths own) + total (frame_widths own r.frame_count)
   record_width = length_task_bits own (task_in r) many ∙ ap (λ (n : ℕ). total (fixed_widths own) + total (frame_widths own n)) count_is
 
   -- counted by rows of widths
-  module _ (n m : ℕ) (ws fs : List ℕ) (en : n ≡ length (fixed_widths own)) (ew : ws ≡ fixed_widths own ++ replicate (fixed_room - length (fixed_widths own)) 0)
-      (em : m ≡ frame_fields own * r.frame_count) (ef : fs ≡ frame_widths true most_frames)
-      (a b : ℕ) (ea : a ≡ width_of (take n ws)) (eb : b ≡ width_of (take m fs)) where
+  module _ {n m : ℕ} {ws fs : List ℕ} (w : Widths own r n m ws fs) (a b : ℕ) (ea : a ≡ width_of (take n ws)) (eb : b ≡ width_of (take m fs)) where
     fixed_small : (o : Bool) → total (fixed_widths o) ≤ 64
     unfolding total
     fixed_small false = omega arith
@@ -91,8 +98,8 @@ module _ (own : Bool) (r : Record) (few : r.frame_count ≤ most_frames) (frames
 
     widths_are : (a ≡ total (fixed_widths own)) × (b ≡ total (frame_widths own r.frame_count))
     widths_are = (
-      ea ∙ ap width_of (fixed_first own n ws en ew) ∙ omega (arith, fixed_small own),
-      eb ∙ ap width_of (frames_first own r.frame_count m fs few em ef) ∙ omega (arith, frames_small),
+      ea ∙ ap width_of (fixed_first own n ws w.fixed_fields w.fixed) ∙ omega (arith, fixed_small own),
+      eb ∙ ap width_of (frames_first own r.frame_count m fs few w.frame_fields_of w.frames) ∙ omega (arith, frames_small),
     )
 
     pub width_small : a + b ≤ last_position
@@ -116,10 +123,7 @@ module _ (own : Bool) (r : Record) (few : r.frame_count ≤ most_frames) (frames
         }
 
     -- the bits of a record, put by its rows
-    module _ (n m : ℕ) (ws fs xs ys : List ℕ) (en : n ≡ length (fixed_widths own)) (ew : ws ≡ fixed_widths own ++ replicate (fixed_room - length (fixed_widths own)) 0)
-        (em : m ≡ frame_fields own * r.frame_count) (ef : fs ≡ frame_widths true most_frames)
-        (ex : xs ≡ fixed_numbers own (task_in r) ++ replicate (fixed_room - length (fixed_widths own)) 0)
-        (ey : take (frame_fields own * r.frame_count) ys ≡ frame_numbers own (task_in r))
+    module _ {n m : ℕ} {ws fs xs ys : List ℕ} (w : Widths own r n m ws fs) (v : Numbers own r xs ys)
         (s : List ℕ) (at : ℕ) (room : at + length (task_bits own (task_in r)) ≤ end_of (length s)) where
       abbrev F : List Bool
       F = packed (fixed_widths own) (fixed_numbers own (task_in r))
@@ -128,13 +132,13 @@ module _ (own : Bool) (r : Record) (few : r.frame_count ≤ most_frames) (frames
       G = packed (frame_widths own (length (task_in r).frames)) (frame_numbers own (task_in r))
 
       fixed_row : packed (take n ws) (take n xs) ≡ F
-      fixed_row = ap₂ packed (fixed_first own n ws en ew) (numbers_first own r n xs en ex)
+      fixed_row = ap₂ packed (fixed_first own n ws w.fixed_fields w.fixed) (numbers_first own r n xs w.fixed_fields v.fixed)
 
       frame_row : packed (take m fs) (take m ys) ≡ G
       frame_row =
           ap₂ packed
-          (frames_first own r.frame_count m fs few em ef ∙ ap (frame_widths own) (sym count_is))
-          (ap (λ (k : ℕ). take k ys) em ∙ ey)
+          (frames_first own r.frame_count m fs few w.frame_fields_of w.frames ∙ ap (frame_widths own) (sym count_is))
+          (ap (λ (k : ℕ). take k ys) w.frame_fields_of ∙ v.frames)
 
       rows_room : at + length F + length G ≤ end_of (length s)
       unfolding task_bits
@@ -142,7 +146,7 @@ module _ (own : Bool) (r : Record) (few : r.frame_count ≤ most_frames) (frames
 
       pub fixed_can : row_fits (length s) at (take n ws) (take n xs) ≡ true
       fixed_can =
-          rw (fixed_first own n ws en ew, numbers_first own r n xs en ex)
+          rw (fixed_first own n ws w.fixed_fields w.fixed, numbers_first own r n xs w.fixed_fields v.fixed)
           (row_can (length s) at (fixed_lawful own) (fixed_fit own (task_in r) in_fields) (omega (arith, rows_room)))
 
       module _ {t : List ℕ} {next : ℕ} (p : Placed s at (packed (take n ws) (take n xs)) t next) where
@@ -151,7 +155,7 @@ module _ (own : Bool) (r : Record) (few : r.frame_count ≤ most_frames) (frames
 
         pub frames_can : row_fits (length t) next (take m fs) (take m ys) ≡ true
         frames_can =
-            rw (frames_first own r.frame_count m fs few em ef ∙ ap (frame_widths own) (sym count_is), ap (λ (k : ℕ). take k ys) em ∙ ey)
+            rw (frames_first own r.frame_count m fs few w.frame_fields_of w.frames ∙ ap (frame_widths own) (sym count_is), ap (λ (k : ℕ). take k ys) w.frame_fields_of ∙ v.frames)
             (row_can (length t) next (frames_lawful own (length (task_in r).frames)) (frames_fit_in own (task_in r) in_fields) (room_behind F _ rows_room first))
 
         pub rows_placed : {u : List ℕ} {end : ℕ} → Placed t next (packed (take m fs) (take m ys)) u end → Placed s at (task_bits own (task_in r)) u end

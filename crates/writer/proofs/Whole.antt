@@ -1,4 +1,5 @@
 -- The whole sheet: header and records, and the fill and check word behind them, are the bytes of the definition.
+use Rattle.std.specs.Prelude.{Ok}
 use mathlib.Core.Bool.{Bool, true}
 use mathlib.Core.List.{List, [], ◌∷◌, ◌++◌, map}
 use mathlib.Core.Path.{◌≡◌, sym, ap, ◌∙◌}
@@ -21,7 +22,6 @@ use Rattle.sheet.specs.Tasks.{task_in, records_of}
 use Rattle.sheet.specs.Admission.{admission}
 use Rattle.sheet.specs.Writing.{header_bits, tasks_bits, sheet_of, sheet_bytes}
 use Rattle.sheet.specs.declared.TaskSet.{TaskSet}
-use Rattle.sheet.specs.declared.Answer.TheVariants.{Admitted}
 use Rattle.sheet.proofs.Carried.{count_in_use}
 use Rattle.sheet.proofs.Lawful.{header_lawful}
 use Rattle.writer.proofs.Sets.{size_most}
@@ -44,7 +44,7 @@ header_placed version policy n ws ew p = rw ew at p
 
 -- ---- the sheet of an admitted set, put into as many bytes as it has
 
-module _ (version : ℕ) (s : TaskSet) (e : admission s ≡ Admitted) (long : length s.tasks ≡ most_tasks) where
+module _ (version : ℕ) (s : TaskSet) (e : admission s ≡ Ok tt) (long : length s.tasks ≡ most_tasks) where
   -- the bits of its header and of its records
   abbrev H : List Bool
   H = header_bits version s.policy s.task_count

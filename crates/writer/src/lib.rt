@@ -1,7 +1,7 @@
 // The writer: a set by value becomes a sheet of either version in the lent bytes, field after field, most significant bit first.
 #![tactic(auto)]
 
-ghost use Rattle.std.specs.Prelude.{◌≡◌, true, ◌||◌, map, ◌++◌, ◌+◌, ◌-◌, ◌*◌, ◌≤◌, ◌<◌, length, get_or, take, replicate};
+ghost use Rattle.std.specs.Prelude.{◌≡◌, Ok, true, ◌||◌, map, ◌++◌, ◌+◌, ◌-◌, ◌*◌, ◌≤◌, ◌<◌, length, get_or, take, replicate};
 ghost use Rattle.records.specs.Faces.{end_of};
 ghost use Rattle.records.specs.Inside.Steps.{Placed};
 ghost use Rattle.sheet.specs.Tasks.{task_in, records_of};
@@ -10,9 +10,8 @@ ghost use Rattle.sheet.specs.Fields.{own_deadlines, fixed_widths, frame_fields};
 ghost use Rattle.sheet.specs.Admission.{in_range, admission};
 ghost use Rattle.sheet.specs.Reading.{version_among};
 ghost use Rattle.sheet.specs.Writing.{header_bits, fixed_numbers, frame_numbers, task_bits, tasks_bits, sheet_bytes, one_deadline, one_deadline_each, written, left};
-ghost use Rattle.sheet.specs.declared.Answer.TheVariants.{Admitted};
 
-use sheet::{Answer, Refusal, Sheet, Task, TaskSet, Written};
+use sheet::{Refusal, Sheet, Task, TaskSet};
 
 // Version, policy, task count, spare.
 fn put_header(bytes: &mut [u8], version: u32, policy: u32, count: u32) -> usize
@@ -40,16 +39,13 @@ fn frame_number(own: bool, task: Task, j: usize) -> u32
     requires { (task.frame_count ≤ most_frames) × (j < frame_fields own * task.frame_count) }
     ensures { result ≡ get_or (frame_numbers own (task_in task)) j 0 }
 {
-    let frames = task.frames;
     if !own {
-        return frames[j];
+        task.frames[j]
+    } else if j % 2 == 0 {
+        task.frames[j / 2]
+    } else {
+        task.deadlines[j / 2]
     }
-    let k = j / 2;
-    if j % 2 == 0 {
-        return frames[k];
-    }
-    let deadlines = task.deadlines;
-    deadlines[k]
 }
 
 // All of them, in room for eight frames.
@@ -59,8 +55,8 @@ fn frame_numbers(own: bool, task: Task) -> [u32; Sheet::FRAME_FIELDS_ROOM]
 {
     let fields = Sheet::frame_fields(own) * task.frame_count as usize;
     let mut numbers = [0u32; Sheet::FRAME_FIELDS_ROOM];
-    for j in 0..fields {
-        numbers[j] = frame_number(own, task, j);
+    for (j, number) in numbers[..fields].iter_mut().enumerate() {
+        *number = frame_number(own, task, j);
     }
     numbers
 }
@@ -87,13 +83,11 @@ fn put_task(bytes: &mut [u8], at: usize, own: bool, task: Task) -> usize
 
 // The task records one after another.
 fn put_tasks(bytes: &mut [u8], at: usize, own: bool, set: TaskSet) -> usize
-    requires { (admission set ≡ Admitted) × (at + length (tasks_bits own (map task_in (records_of set))) ≤ end_of (length bytes.old)) }
+    requires { (admission set ≡ Ok tt) × (at + length (tasks_bits own (map task_in (records_of set))) ≤ end_of (length bytes.old)) }
     ensures { Placed bytes.old at (tasks_bits own (map task_in (records_of set))) bytes.new result }
 {
-    let count = set.task_count as usize;
     let mut next = at;
-    for i in 0..count {
-        let task = set.tasks[i];
+    for &task in set.tasks_in_use() {
         next = put_task(bytes, next, own, task);
     }
     next
@@ -105,8 +99,7 @@ fn task_width(own: bool, task: Task) -> usize
     ensures { result ≡ length (task_bits own (task_in task)) }
 {
     let widths = Sheet::fixed_widths(own);
-    let fields = Sheet::fixed_fields(own);
-    let fixed = records::width_of(&widths[..fields]);
+    let fixed = records::width_of(&widths[..Sheet::fixed_fields(own)]);
     let frame_widths = Sheet::frame_widths();
     let frame_fields = Sheet::frame_fields(own) * task.frame_count as usize;
     fixed + records::width_of(&frame_widths[..frame_fields])
@@ -114,15 +107,12 @@ fn task_width(own: bool, task: Task) -> usize
 
 // How many bytes the sheet of a set takes.
 fn sheet_size(version: u32, set: TaskSet) -> usize
-    requires { admission set ≡ Admitted }
+    requires { admission set ≡ Ok tt }
     ensures { result ≡ length (sheet_bytes version set) }
 {
     let own = Sheet::own_deadlines(version);
-    let count = set.task_count as usize;
-    let widths = Sheet::header_widths();
-    let mut bits = records::width_of(&widths);
-    for i in 0..count {
-        let task = set.tasks[i];
+    let mut bits = records::width_of(&Sheet::header_widths());
+    for &task in set.tasks_in_use() {
         bits += task_width(own, task);
     }
     records::sealed_size(bits)
@@ -130,7 +120,7 @@ fn sheet_size(version: u32, set: TaskSet) -> usize
 
 // The whole sheet into as many bytes as it has: header, task records, fill and check word.
 fn put_sheet(bytes: &mut [u8], version: u32, set: TaskSet)
-    requires { (version ≤ version_2) × (admission set ≡ Admitted) × (length bytes.old ≡ length (sheet_bytes version set)) }
+    requires { (version ≤ version_2) × (admission set ≡ Ok tt) × (length bytes.old ≡ length (sheet_bytes version set)) }
     ensures { bytes.new ≡ sheet_bytes version set }
 {
     let at = put_header(bytes, version, set.policy, set.task_count);
@@ -140,73 +130,49 @@ fn put_sheet(bytes: &mut [u8], version: u32, set: TaskSet)
 
 // Whether all frames of a task have the same deadline.
 fn one_deadline(task: Task) -> bool
-    requires { task.frame_count ≤ most_frames }
     ensures { result ≡ one_deadline (task_in task) }
 {
     let first = sheet::deadline_of(task, 0);
-    let deadlines = task.deadlines;
-    let count = task.frame_count as usize;
-    for k in 0..count {
-        if deadlines[k] != first {
-            return false;
-        }
-    }
-    true
+    task.deadlines_in_use().iter().all(|&d| d == first)
 }
 
 // Whether each task of a set has but one deadline.
 fn one_deadline_each(set: TaskSet) -> bool
-    requires { admission set ≡ Admitted }
     ensures { result ≡ one_deadline_each (map task_in (records_of set)) }
 {
-    let count = set.task_count as usize;
-    for i in 0..count {
-        let task = set.tasks[i];
-        if !one_deadline(task) {
-            return false;
-        }
-    }
-    true
+    set.tasks_in_use().iter().all(|&task| one_deadline(task))
 }
 
-// Whether a version can hold an admitted set.
+// Whether a version can hold a set.
 fn held(version: u32, set: TaskSet) -> bool
-    requires { admission set ≡ Admitted }
     ensures { result ≡ (own_deadlines version || one_deadline_each (map task_in (records_of set))) }
 {
-    if Sheet::own_deadlines(version) {
-        return true;
-    }
-    one_deadline_each(set)
+    Sheet::own_deadlines(version) || one_deadline_each(set)
 }
 
 // The sheet of an admitted set, in a known version that can hold it.
-fn write_admitted(version: u32, set: TaskSet, bytes: &mut [u8]) -> Written
-    requires { (version_among version_1 version_2 version ≡ true) × (admission set ≡ Admitted) × ((own_deadlines version || one_deadline_each (map task_in (records_of set))) ≡ true) }
+fn write_admitted(version: u32, set: TaskSet, bytes: &mut [u8]) -> Result<usize, Refusal>
+    requires { (version_among version_1 version_2 version ≡ true) × (admission set ≡ Ok tt) × ((own_deadlines version || one_deadline_each (map task_in (records_of set))) ≡ true) }
     ensures { (result ≡ written version set bytes.old) × (bytes.new ≡ left version set bytes.old) }
 {
     let size = sheet_size(version, set);
     if bytes.len() < size {
-        return Written::TurnedAway(Refusal::Room);
+        return Err(Refusal::Room);
     }
     put_sheet(&mut bytes[..size], version, set);
-    Written::Bytes(size)
+    Ok(size)
 }
 
 // The sheet of a set goes into the first of the lent bytes; the answer is how many, or the one refusal, and then nothing is touched.
-pub fn write_sheet(version: u32, set: TaskSet, bytes: &mut [u8]) -> Written
+pub fn write_sheet(version: u32, set: TaskSet, bytes: &mut [u8]) -> Result<usize, Refusal>
     ensures { (result ≡ written version set bytes.old) × (bytes.new ≡ left version set bytes.old) }
 {
     if !sheet::version_among(Sheet::VERSION_1, Sheet::VERSION_2, version) {
-        return Written::TurnedAway(Refusal::Version);
+        return Err(Refusal::Version);
     }
-    let judged = admission::admit(set);
-    let answer = judged.answer;
-    if let Answer::Refused(refusal) = answer {
-        return Written::TurnedAway(refusal);
-    }
+    admission::admit(set)?;
     if !held(version, set) {
-        return Written::TurnedAway(Refusal::Deadlines);
+        return Err(Refusal::Deadlines);
     }
     write_admitted(version, set, bytes)
 }

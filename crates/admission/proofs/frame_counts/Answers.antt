@@ -1,30 +1,21 @@
--- `frame_counts` meets its contract: the records from i on decide.
-use mathlib.Core.List.{List}
-use mathlib.Core.Path.{◌≡◌, refl, sym, ap, ◌∙◌}
-use Prim.Native.Nat.{◌≤◌}
-use native.Mathlib.Omega.{arith}
-use lib.ListN.{length}
-use Rattle.sheet.specs.Constants.{most_tasks}
-use Rattle.sheet.specs.Admission.{decided, frame_count_checks}
+-- `frame_counts` meets its contract.
+use Rattle.std.specs.List.{position_from}
+use Rattle.std.proofs.Common.{List, ap, ◌∙◌, arith}
+use Rattle.sheet.specs.Constants.{most_frames}
+use Rattle.sheet.specs.Admission.{miscounted}
 use Rattle.sheet.specs.declared.Task.{Task as Record}
-use Rattle.sheet.proofs.Records.{mapped_length, records_used}
-use Rattle.admission.proofs.Answers.{counts_all, counts_refuse, counts_pass, counts_end}
-use borrow.Author.Rules.{rules}
+use Rattle.admission.proofs.Answers.{counts_refuse, counts_pass}
 use Rattle.admission.proofs.frame_counts.Goals as goal
 
-pub loop-i-init : goal.loop-i-init
-loop-i-init c = (search rules, refl)
+pub overflow_cast-result : goal.overflow_cast-result
+overflow_cast-result c = record { fits = omega (arith, c.in-Some.ensures.within, c.tasks_in_use.ensures.few) }
 
-pub returns-then-miscounted : goal.returns-then-miscounted
-returns-then-miscounted c = counts_refuse _ _ ((let it : c.in_use-count.result ≤ length c.args.set.tasks = omega (arith, (let it : length c.args.set.tasks ≡ most_tasks = search (rules, mapped_length) in it)) in it)) _ _ c.loop-i-test.true _ refl (sym c.miscounted.ensures ∙ c.if-miscounted.true)
-    ∙ c.loop-i.invariant.1
-    ∙ (counts_all _ _ ∙ ap (λ (rs : List Record). decided (frame_count_checks 0 rs)) (records_used c.args.set _ (c.in_use-count.ensures, (let it : length c.args.set.tasks ≡ most_tasks = search (rules, mapped_length) in it))))
+pub returns-in-Some : goal.returns-in-Some
+returns-in-Some c =
+    counts_refuse c.args.set _
+    (c.first_miscounted.ensures.found ∙ ap (λ (rs : List Record). position_from (λ r. miscounted r.frame_count most_frames) 0 rs) c.tasks_in_use.ensures.are) _ c.in-Some.is
 
-pub loop-i-preserved : goal.loop-i-preserved
-loop-i-preserved c = (
-  search rules,
-  counts_pass _ _ ((let it : c.in_use-count.result ≤ length c.args.set.tasks = omega (arith, (let it : length c.args.set.tasks ≡ most_tasks = search (rules, mapped_length) in it)) in it)) _ _ c.loop-i-test.true _ refl (sym c.miscounted.ensures ∙ c.if-miscounted.false) ∙ c.loop-i.invariant.1,
-)
-
-pub returns : goal.returns
-returns c = sym (counts_end _ _ ((let it : c.in_use-count.result ≤ length c.args.set.tasks = omega (arith, (let it : length c.args.set.tasks ≡ most_tasks = search (rules, mapped_length) in it)) in it)) _ c.loop-i-test.false) ∙ c.loop-i.invariant.1 ∙ (counts_all _ _ ∙ ap (λ (rs : List Record). decided (frame_count_checks 0 rs)) (records_used c.args.set _ (c.in_use-count.ensures, (let it : length c.args.set.tasks ≡ most_tasks = search (rules, mapped_length) in it))))
+pub returns-in-None : goal.returns-in-None
+returns-in-None c =
+    counts_pass c.args.set _
+    (c.first_miscounted.ensures.found ∙ ap (λ (rs : List Record). position_from (λ r. miscounted r.frame_count most_frames) 0 rs) c.tasks_in_use.ensures.are) c.in-None.is

@@ -1,33 +1,24 @@
 -- `well_formed` meets its contract.
-use mathlib.Core.Path.{◌≡◌, sym, ◌∙◌}
-use native.Mathlib.Omega.{arith}
-use lib.ListN.{length}
-use Rattle.sheet.specs.Constants.{most_frames}
+use Rattle.std.proofs.Common.{◌≡◌, ℕ, false, ◌&&◌, List, sym, ap₂, inl, inr, ◌∙◌, rules}
 use Rattle.sheet.specs.Tasks.{task_in}
-use Rattle.sheet.proofs.Records.{frames_few}
-use Rattle.admission.proofs.Fits.{not_fitting, frames_decide}
-use borrow.Author.Rules.{rules}
+use Rattle.sheet.specs.Admission.{in_range, well_formed}
+use Rattle.sheet.proofs.Records.{as_many_slots}
+use Rattle.admission.specs.Inside.Frames.{all_between}
+use Rattle.admission.proofs.Fits.{not_a_time, long_lock, frames_decide}
 use Rattle.admission.proofs.well_formed.Goals as goal
 
-pub returns-then-period-lt1 : goal.returns-then-period-lt1
+pub returns-then-task-le-GREATEST_TIME : goal.returns-then-task-le-GREATEST_TIME
 unfolding task_in
-returns-then-period-lt1 c = sym (not_fitting _ (λ f. omega arith))
+returns-then-task-le-GREATEST_TIME c =
+    let task = c.args.task in
+    let inside = c.if-task-le-GREATEST_TIME.true in
+    c.frames_between.ensures
+    ∙ ap₂ (λ (fs ds : List ℕ). all_between task.period fs ds) c.frames_in_use.ensures.are c.deadlines_in_use.ensures.are
+    ∙ frames_decide (task_in task) (as_many_slots task (search rules) (search rules)) (sym c.is_time.ensures ∙ inside.0) inside.1
 
-pub returns-then-period-gt-GREATEST_TIME : goal.returns-then-period-gt-GREATEST_TIME
+pub returns-else-task-le-GREATEST_TIME : goal.returns-else-task-le-GREATEST_TIME
 unfolding task_in
-returns-then-period-gt-GREATEST_TIME c = sym (not_fitting _ (λ f. omega arith))
-
-pub returns-then-task-gt-GREATEST_TIME : goal.returns-then-task-gt-GREATEST_TIME
-unfolding task_in
-returns-then-task-gt-GREATEST_TIME c = sym (not_fitting _ (λ f. omega arith))
-
-pub frames_between-requires : goal.frames_between-requires
-frames_between-requires c = let r = c.args.task in
-    let room : length r.frames ≡ most_frames = search rules in
-    (room, search rules, omega (arith, frames_few r room, c.frame_count-count.ensures))
-
-pub returns : goal.returns
-returns c = let r = c.args.task in
-    let frames_room : length r.frames ≡ most_frames = search rules in
-    let deadlines_room : length r.deadlines ≡ most_frames = search rules in
-    c.frames_between.ensures ∙ frames_decide r _ frames_room deadlines_room c.frame_count-count.ensures (omega arith) (omega arith) (omega arith)
+returns-else-task-le-GREATEST_TIME c =
+    let task = task_in c.args.task in
+    let turned_away : (in_range task && well_formed task) ≡ false = elim c.if-task-le-GREATEST_TIME.either [ inl above ↦ long_lock task above.1 | inr none ↦ not_a_time task (sym c.is_time.ensures ∙ none) ] in
+    cc

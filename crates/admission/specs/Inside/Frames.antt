@@ -1,5 +1,6 @@
 -- What the code's parts say of frame times and deadlines.
-use Rattle.std.specs.Prelude.{Bool, ◌&&◌, List, [], ℕ, leb, get_or}
+use Rattle.std.specs.Prelude.{Bool, ◌&&◌, List, [], ℕ, leb, nat_le}
+use Rattle.std.specs.List.{list_all, zip}
 use Rattle.theory.specs.First.{every}
 use Rattle.theory.specs.Tasks.{Task, frame_count, work}
 
@@ -13,8 +14,8 @@ from_at_least t s k = every 1 (frame_count t) (λ n. leb (work t k n) (work t s 
 
 -- one frame takes a tick or more and at most its deadline, and that is at most the period
 abbrev pub between : (period c d : ℕ) → Bool
-between period c d = leb 1 c && leb c d && leb d period
+between period c d = nat_le 1 c && nat_le c d && nat_le d period
 
--- and so does each of the first ones
-unfoldable pub all_between : (period count : ℕ) → List ℕ → List ℕ → Bool
-all_between period count frames deadlines = every 0 count (λ k. between period (get_or frames k 0) (get_or deadlines k 0))
+-- and so does each frame
+unfoldable pub all_between : ℕ → List ℕ → List ℕ → Bool
+all_between period frames deadlines = list_all (λ p. between period p.0 p.1) (zip frames deadlines)

@@ -1,26 +1,22 @@
 -- `missed_frame` meets its contract.
-use mathlib.Core.List.{map}
-use mathlib.Core.Path.{sym, ap, ◌∙◌}
-use Rattle.sheet.specs.Tasks.{task_in, records_of}
-use Rattle.sheet.specs.declared.Answer.{Answer}
-use Rattle.admission.proofs.Answers.{judged_tells}
-use Rattle.analysis.specs.Misses.{miss_of, set_miss}
-use Rattle.analysis.proofs.Entries.{judged_is}
+use Rattle.std.specs.Result.{result_ok}
+use Rattle.std.proofs.Common.{sym, ap, ◌∙◌, rules}
+use Rattle.sheet.proofs.Records.{mapped_length}
+use Rattle.order.specs.Ordered.{tasks_in_order}
+use Rattle.order.specs.declared.Ordered.{Ordered}
+use Rattle.analysis.specs.Misses.{miss_in}
+use Rattle.analysis.proofs.Entries.{shapes_stand, miss_is, no_miss_is}
 use Rattle.analysis.proofs.missed_frame.Goals as goal
 
-pub admitted_miss-requires : goal.admitted_miss-requires
-admitted_miss-requires c = let j = c.admit-judged.ensures in
-    let e = judged_tells _ _ _ _ j c.in-Admitted.is in
-    (e, (judged_is _ _ _ j e).1)
+pub returns-in_err-judged : goal.returns-in_err-judged
+returns-in_err-judged c = c.from_residual.ensures ∙ no_miss_is _ (sym (ap result_ok c.admit.ensures) ∙ sym c.ok.ensures.value ∙ c.in_err-judged.was)
 
-pub returns-in-Admitted : goal.returns-in-Admitted
-unfolding set_miss miss_of
-returns-in-Admitted c = let s = c.args.set in
-    c.admitted_miss.ensures
-    ∙ ap (λ (a : Answer). miss_of a s.policy (map task_in (records_of s))) (sym (judged_tells _ _ _ _ c.admit-judged.ensures c.in-Admitted.is))
+pub first_of-requires : goal.first_of-requires
+first_of-requires c =
+    rw c.in_order.ensures (shapes_stand c.args.set _ (search (rules, mapped_length)) (sym (ap result_ok c.admit.ensures) ∙ sym c.ok.ensures.value ∙ c.in_ok-judged.was))
 
-pub returns-in-Refused : goal.returns-in-Refused
-unfolding set_miss miss_of
-returns-in-Refused c = let s = c.args.set in
-    let e = judged_tells _ _ _ _ c.admit-judged.ensures c.in-Refused.is in
-    sym (ap (λ (a : Answer). miss_of a s.policy (map task_in (records_of s))) e)
+pub returns : goal.returns
+returns c =
+    c.first_of.ensures
+    ∙ ap (λ (o : Ordered). miss_in (tasks_in_order o)) c.in_order.ensures
+    ∙ miss_is c.args.set _ (sym (ap result_ok c.admit.ensures) ∙ sym c.ok.ensures.value ∙ c.in_ok-judged.was)

@@ -1,31 +1,19 @@
--- `scattered` meets its contract.
-use Rattle.std.proofs.Common.{◌≡◌, ◌<◌, length, sym, ◌∙◌, arith, rules}
+-- `scattered` meets its contract: the records go, or do not fit.
+use Rattle.std.proofs.Common.{◌≡◌, length, sym, rules}
 use Rattle.sheet.specs.Constants.{most_tasks}
-use Rattle.sheet.specs.Tasks.{no_record}
-use Rattle.sheet.proofs.Records.{mapped_length}
-use Rattle.lent.proofs.Laid.{laid_none, laid_more}
-use Rattle.lists.specs.Inside.Parts.{to_fill}
-use Rattle.lists.proofs.Laws.{fill_most, fill_room, laid_as_scattered}
+use Rattle.lists.proofs.Laws.{scattered_many, scattered_short, scattered_first}
 use Rattle.lists.proofs.scattered.Goals as goal
+use Rattle.lists.proofs.scattered.Goals.{else-count-le-TASK_ROOM-via-then-count-le-TASK_ROOM+else-count-list, else-count-le-TASK_ROOM-via-else-count-le-TASK_ROOM}
 
-pub loop-i-init : goal.loop-i-init
-loop-i-init c = record { within = omega arith; filled = sym (laid_none c.args.set.tasks c.args.list.now) }
+pub returns-then-count-list : goal.returns-then-count-list
+returns-then-count-list c =
+    let sixteen : length c.args.set.tasks ≡ most_tasks = search rules in
+    rw c.copy_from_slice.ensures.after (sym (scattered_first c.args.set c.args.list.now sixteen c.if-count-le-TASK_ROOM.true c.if-count-list.true))
 
-pub record_at-requires : goal.record_at-requires
-record_at-requires c = omega (arith, fill_most c.args.set (length c.args.list.now))
-
-pub bounds-list-i : goal.bounds-list-i
-bounds-list-i c = omega (arith, fill_room c.args.set (length c.args.list.now))
-
-pub loop-i-preserved : goal.loop-i-preserved
-loop-i-preserved c =
-    let sixteen : length c.args.set.tasks ≡ most_tasks = search (rules, mapped_length) in
-    let h : c.loop-i.i < length c.args.set.tasks = omega (arith, fill_most c.args.set (length c.args.list.now)) in
-    let l : c.loop-i.i < length c.args.list.now = omega (arith, fill_room c.args.set (length c.args.list.now)) in
-    record { within = omega arith; filled = rw (c.loop-i.invariant.filled, c.record_at.ensures) (laid_more c.args.set.tasks c.args.list.now c.loop-i.i no_record h l) }
-
-pub returns : goal.returns
-returns c =
-    let sixteen : length c.args.set.tasks ≡ most_tasks = search (rules, mapped_length) in
-    let all : c.loop-i.i ≡ to_fill c.args.set (length c.args.list.now) = omega arith in
-    c.loop-i.invariant.filled ∙ rw all (laid_as_scattered c.args.set c.args.list.now sixteen)
+pub returns-else-count-le-TASK_ROOM : goal.returns-else-count-le-TASK_ROOM
+returns-else-count-le-TASK_ROOM c =
+    let sixteen : length c.args.set.tasks ≡ most_tasks = search rules in
+    elim c.else-count-le-TASK_ROOM.branch [
+      | else-count-le-TASK_ROOM-via-then-count-le-TASK_ROOM+else-count-list w ↦ sym (scattered_short c.args.set c.args.list.now sixteen w.if-count-le-TASK_ROOM.true w.if-count-list.false)
+      | else-count-le-TASK_ROOM-via-else-count-le-TASK_ROOM w ↦ sym (scattered_many c.args.set c.args.list.now sixteen w.if-count-le-TASK_ROOM.false)
+    ]

@@ -1,8 +1,6 @@
 -- The course of a play: what is known of the script that is played, and of the player's state from moment to moment.
-use Rattle.std.specs.Prelude.{Bool, true, false, cond, ◌&&◌, ◌≡◌, ℕ, ◌+◌, ◌≤◌, ◌<◌, leb, ltb, length, get_or, take, drop}
+use Rattle.std.specs.Prelude.{Bool, true, false, if◌then◌else◌, ◌&&◌, ◌≡◌, ℕ, ◌+◌, ◌≤◌, ◌<◌, nat_le, nat_lt, length, get_or, take, drop, None, is_none}
 use mathlib.Core.List.{List, Memᴰ}
-use Rattle.std.proofs.Math.Option
-use Rattle.std.proofs.Math.Option.{none}
 use Rattle.bits.specs.Packed.{bits_of}
 use Rattle.check_word.specs.Division.{body}
 use Rattle.lent.specs.Checks.{first_refusal}
@@ -18,35 +16,24 @@ use Rattle.plays.specs.Play.{script_seen, misser, over, end_of_play, shown_from}
 use Rattle.plays.specs.declared.Entry.{Entry}
 use Rattle.scripts.specs.Reading.{firsts_in, entry_at, well_made}
 use Rattle.player.specs.Shows.{Shows}
-use Rattle.player.specs.State.{never, picked_by, ticked, looking_ahead}
+use Rattle.player.specs.Answers.{ended}
+use Rattle.player.specs.State.{never}
 use Rattle.player.specs.declared.state.Player.{Player}
 use Rattle.player.specs.declared.course.Cast.{Cast}
 use Rattle.player.specs.declared.course.Progress.{Progress}
-use Rattle.player.specs.declared.course.End.{End}
+use Rattle.player.specs.declared.Played.{Played}
 
 -- an entry that is never released
 abbrev pub never_released : Entry
 never_released = record { task = 0; tick = never; work = 0; lock = 0 }
 
 -- entry j, or that one where there is none
-unfoldable pub upcoming : List ℕ → Cast → ℕ → Entry
-upcoming s cast j = cond (ltb j cast.entries) (entry_at cast.count s j) never_released
-
--- how far a play has come, looking ahead at a moment at which no task misses
-abbrev pub looked_ahead : Progress → ℕ → Progress
-looked_ahead at t = record { player = looking_ahead at.player t; released = at.released; next = at.next }
-
--- how far it has come, with the task picked that has the tick
-abbrev pub with_picked : Cast → Progress → Progress
-with_picked cast at = record { player = picked_by (take cast.count cast.order) at.player; released = at.released; next = at.next }
-
--- the same with the tick given
-abbrev pub after_tick : Progress → Progress
-after_tick at = record { player = ticked at.player; released = at.released; next = at.next }
+abbrev pub upcoming : List ℕ → Cast → ℕ → Entry
+upcoming s cast j = if nat_lt j cast.entries then entry_at cast.count s j else never_released
 
 -- all jobs are done: every one of n entries is released, and no task has the tick
-unfoldable pub done_with : ℕ → Progress → Bool
-done_with n at = leb n at.released && leb most_tasks at.player.picked
+abbrev pub done_with : ℕ → Progress → Bool
+done_with n at = nat_le n at.released && is_none at.player.picked
 
 -- a script of which no item is turned away, of an admitted set in priority order
 pub record Ready (order : List ℕ) (tasks : List Task) (sc : Script) : Type 0 where
@@ -54,7 +41,7 @@ pub record Ready (order : List ℕ) (tasks : List Task) (sc : Script) : Type 0 w
   pub admitted : Admitted tasks
   pub few : length tasks ≤ most_tasks
   pub as_many : length sc.firsts ≡ length tasks
-  pub kept : first_refusal (item_checks tasks sc) ≡ none
+  pub kept : first_refusal (item_checks tasks sc) ≡ None
   pub ticks_in : (e : Entry) → Memᴰ e sc.entries → e.tick ≤ greatest_time
   pub deadlines_in : (i k : ℕ) → i < length tasks → deadline_of (task_at tasks i) k ≤ greatest_time
 
@@ -101,27 +88,27 @@ module _ {s : List ℕ} {cast : Cast} (stage : Stage s cast) where
   -- how far a play has come at moment t: it is not over before
   pub record Going (t : ℕ) (at : Progress) : Type 0 where
     pub in_play : InPlay order_on stage.tasks stage.sc t at.released at.player
+    pub frames_now : FramesOn t at.frames
     pub next_is : at.next ≡ upcoming s cast at.released
     pub not_over : (u : ℕ) → u < t → over order_on stage.tasks stage.sc u ≡ false
 
   -- and with the releases of tick t seen, where no task misses at moment t; the frames are kept for the next moment
-  pub record Gone (t : ℕ) (at : Progress) (frames : List ℕ) : Type 0 where
+  pub record Gone (t : ℕ) (at : Progress) : Type 0 where
     pub seen : Seen order_on stage.tasks stage.sc t at.released at.player
+    pub frames_then : FramesOn (t + 1) at.frames
     pub next_is : at.next ≡ upcoming s cast at.released
-    pub frames_then : FramesOn (t + 1) frames
 
   -- how the play ends
-  abbrev pub the_end : End
+  abbrev pub the_end : Played
   the_end =
       let t = end_of_play order_on stage.tasks stage.sc in
-      record { tick = t; task = Option.get_or (misser order_on stage.tasks stage.sc t) most_tasks }
+      ended t (misser order_on stage.tasks stage.sc t)
 
 -- a play at moment t at which no task misses
-pub record Calmly (s : List ℕ) (cast : Cast) (t : ℕ) (at : Progress) (frames : List ℕ) : Type 0 where
+pub record Calmly (s : List ℕ) (cast : Cast) (t : ℕ) (at : Progress) : Type 0 where
   pub stage : Stage s cast
   pub going : Going stage t at
-  pub frames_now : FramesOn stage t frames
-  pub calm : misser (order_on stage) stage.tasks stage.sc t ≡ none
+  pub calm : misser (order_on stage) stage.tasks stage.sc t ≡ None
   pub soon : t < never
 
 -- n ticks of the play, a byte each

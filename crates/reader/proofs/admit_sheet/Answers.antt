@@ -1,10 +1,10 @@
 -- `admit_sheet` meets its contract.
-use mathlib.Core.Path.{◌∙◌}
-use Rattle.reader.proofs.Whole.{refused_before, judged_so, sheet_refused, sheet_judged_so}
+use Rattle.std.proofs.Common.{rules, sym, ◌∙◌}
+use Rattle.reader.proofs.Whole.{sheet_refused, sheet_judged_so}
 use Rattle.reader.proofs.admit_sheet.Goals as goal
 
-pub returns-in-Refused : goal.returns-in-Refused
-returns-in-Refused c = c.refused.ensures ∙ sheet_refused _ _ (refused_before _ _ _ _ c.read_bytes-found.ensures _ c.in-Refused.is)
+pub returns-in_err-found : goal.returns-in_err-found
+returns-in_err-found c = let told = sheet_refused _ _ (sym c.read_bytes.ensures ∙ c.in_err-found.was) in search rules
 
-pub returns-in-Admitted : goal.returns-in-Admitted
-returns-in-Admitted c = sheet_judged_so _ _ (judged_so _ _ _ _ c.read_bytes-found.ensures c.in-Admitted.is _ c.judge_tasks.ensures)
+pub returns : goal.returns
+returns c = c.judge_tasks.ensures ∙ sheet_judged_so _ _ (sym c.read_bytes.ensures ∙ c.in_ok-found.was)

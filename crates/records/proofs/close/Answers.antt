@@ -1,5 +1,6 @@
 -- `close` meets its contract: the fill is one field of zeros, and the check word goes behind.
 use mathlib.Core.Path.{sym, ◌∙◌}
+use native.Mathlib.Omega.{arith}
 use Rattle.records.proofs.Filling.{not_closed, was_closed}
 use Rattle.records.proofs.close.Goals as goal
 
@@ -7,4 +8,4 @@ pub returns-then-bytes-sealed_size : goal.returns-then-bytes-sealed_size
 returns-then-bytes-sealed_size c = not_closed _ _ (λ e. c.if-bytes-sealed_size.true (e ∙ sym c.sealed_size.ensures))
 
 pub returns : goal.returns
-returns c = was_closed _ _ (c.if-bytes-sealed_size.false ∙ c.sealed_size.ensures) _ c.put_field.ensures.1 (λ i. (c.slice_known-2-1.given i).fits) c.put_field.auto.bytes _ c.seal.ensures.1
+returns c = was_closed _ _ (c.if-bytes-sealed_size.false ∙ c.sealed_size.ensures) _ c.put_field.ensures.1 (λ i. grind arith) c.put_field.auto.bytes _ c.seal.ensures.1

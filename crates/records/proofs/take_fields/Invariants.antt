@@ -1,11 +1,6 @@
 -- `take_fields` meets its contract: the numbers of a row, one after another.
-use Prim.Native.Nat.{◌-◌}
-use lib.ListN.{length}
 use Rattle.records.proofs.Taking.{TakenTo}
 use Rattle.records.proofs.take_fields.Given as goal
 
 abbrev pub invariant-loop-i : goal.invariant-loop-i
 invariant-loop-i l = TakenTo l.bytes l.at l.widths l.initial.numbers l.i l.numbers l.next
-
-abbrev pub decreases-loop-i : goal.decreases-loop-i
-decreases-loop-i l = length l.widths - l.i

@@ -1,15 +1,8 @@
--- The words of private contracts: what one step of a writer leaves, and the number of a field that may not be there.
+-- The words of private contracts: what one step of a writer leaves.
 use Rattle.std.specs.Prelude.{Bool, List, ◌≡◌, ℕ, ◌+◌, length}
 use Rattle.bits.specs.Packed.{bits_of, with_field}
-use Rattle.bits.specs.declared.Taken.{Taken}
-use Rattle.bits.specs.declared.Taken.TheVariants.{Value, Outside}
 
 -- bits were put at a position, all others are as they were, and the next position is the one behind them
 pub record Placed (before : List ℕ) (at : ℕ) (bits : List Bool) (after : List ℕ) (next : ℕ) : Type 0 where
   pub placed : bits_of after ≡ with_field at bits (bits_of before)
   pub behind : next ≡ at + length bits
-
--- the number that was taken, 0 where none was
-abbrev pub number_taken : Taken → ℕ
-number_taken (Value v) = v
-number_taken Outside = 0

@@ -1,11 +1,11 @@
--- `put_blocker` meets its contract.
+-- Which word the blocker has.
 use Rattle.report_text.specs.Report.{blocker_word}
 use Rattle.report_text.proofs.put_blocker.Goals as goal
 
-pub returns-in-At : goal.returns-in-At
+pub returns-in-Some-clause-text : goal.returns-in-Some-clause-text
 unfolding blocker_word
-returns-in-At c = rw c.in-At.is c.put_number_and.ensures
+returns-in-Some-clause-text c = rw c.in-Some.is c.put_next.ensures.text
 
-pub returns-in-Nobody : goal.returns-in-Nobody
+pub returns-in-None-clause-text : goal.returns-in-None-clause-text
 unfolding blocker_word
-returns-in-Nobody c = rw c.in-Nobody.is c.put_word.ensures
+returns-in-None-clause-text c = rw c.in-None.is c.put_word.ensures

@@ -1,30 +1,18 @@
--- `put_finding` meets its contract.
-use mathlib.Core.Path.{sym}
-use Prim.Native.Nat.{◌*◌}
-use native.Mathlib.Omega.{arith}
-use Rattle.sheet.specs.Constants.{most_frames}
-use Rattle.report_text.specs.Inside.TextPut.{number_room, head_room}
-use Rattle.report_text.proofs.Put.{put_room}
-use Rattle.report_text.proofs.Lines.{head_length, printed_length, put_missing, put_passing}
+-- The line has its words one behind the other, and of its number two digits at most.
+use Rattle.std.proofs.Common.{arith}
+use Rattle.report_text.proofs.Lines.{finding_put, number_room}
 use Rattle.report_text.proofs.put_finding.Goals as goal
 
-pub put_word-requires : goal.put_word-requires
-put_word-requires c = omega (arith, put_room c.put_head-next.ensures head_room (number_room * most_frames) (head_length c.args.f c.requires.0) c.requires.1)
+pub put_found-requires : goal.put_found-requires
+put_found-requires c = (c.requires.0.few_frames, omega (arith, number_room _ _ _ c.requires.0.known_number c.put_number.ensures.text))
 
-pub returns-then-not-f : goal.returns-then-not-f
-returns-then-not-f c = put_missing c.args.f (omega arith) c.put_head-next.ensures c.if-not-f.true c.put_word.ensures
+pub push-requires : goal.push-requires
+push-requires c = (omega arith, omega (arith, number_room _ _ _ c.requires.0.known_number c.put_number.ensures.text))
 
-pub slice_bounds-put_times-end : goal.slice_bounds-put_times-end
-slice_bounds-put_times-end c = sym (printed_length c.args.f c.requires.0)
+pub returns-clause-text : goal.returns-clause-text
+returns-clause-text c =
+    rw (c.push.ensures.items, c.put_found.ensures.text, c.put_next-3.ensures.text, c.put_next-2.ensures.text, c.put_next.ensures.text, c.put_number.ensures.text)
+    (finding_put c.args.page.now.items c.args.f.now)
 
-pub put_times-requires : goal.put_times-requires
-put_times-requires c = let h = c.requires.0 in
-    let long = printed_length c.args.f h in (
-      omega (arith, long, h.some_frame),
-      omega (arith, long, h.few_frames, put_room c.put_head-next.ensures head_room (number_room * most_frames) (head_length c.args.f h) c.requires.1),
-    )
-
-pub returns : goal.returns
-returns c = let h = c.requires.0 in
-    let long = printed_length c.args.f h in
-    put_passing c.args.f (omega arith) c.put_head-next.ensures (omega (arith, long, h.some_frame)) c.if-not-f.false c.put_times.ensures
+pub returns-clause-room : goal.returns-clause-room
+returns-clause-room c = omega (arith, number_room _ _ _ c.requires.0.known_number c.put_number.ensures.text)

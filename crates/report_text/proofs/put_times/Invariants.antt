@@ -1,13 +1,11 @@
--- `put_times` meets its contract: after k turns, the first k times stand in the buffer, a space behind each.
-use mathlib.Core.Path.{◌≡◌}
-use Prim.Native.Nat.{◌+◌, ◌-◌, ◌*◌, ◌≤◌}
-use lib.ListN.{length}
-use Rattle.report_text.specs.Inside.TextPut.{TextPut}
-use Rattle.report_text.proofs.Line.{begun}
+-- The times before the index stand on the page, each behind a space.
+use Rattle.std.proofs.Common.{◌++◌, ◌≡◌, ◌+◌, ◌*◌, ◌≤◌, length, take}
+use Rattle.std.specs.List.{flat_map}
+use Rattle.report_text.specs.Words.{decimal}
+use Rattle.report_text.specs.Inside.Lines.{behind, word_room}
 use Rattle.report_text.proofs.put_times.Given as goal
 
-abbrev pub invariant-loop-k : goal.invariant-loop-k
-invariant-loop-k l = (l.k ≤ l.last) × (l.last + 1 ≡ length l.times) × (l.at + 11 * length l.times ≤ length l.initial.buffer) × TextPut l.initial.buffer l.at (begun l.times l.k) l.buffer l.next
-
-abbrev pub decreases-loop-k : goal.decreases-loop-k
-decreases-loop-k l = l.last - l.k
+abbrev pub invariant-loop-time : goal.invariant-loop-time
+invariant-loop-time l =
+    (l.page.items ≡ l.initial.page.items ++ flat_map (λ n. behind (decimal n)) (take l.time-index l.times))
+    × (length l.page.items ≤ length l.initial.page.items + word_room * l.time-index)

@@ -1,27 +1,18 @@
--- `report_text` meets its contract: the first line and sixteen others have room, and together they are the report.
-use mathlib.Core.List.{◌++◌}
-use mathlib.Core.Path.{ap, ◌∙◌}
-use Prim.Native.Nat.{◌*◌, zero-le}
-use native.Mathlib.Omega.{arith}
-use Rattle.sheet.specs.Constants.{most_tasks}
-use Rattle.analysis.specs.declared.Analysis.{Analysis}
-use Rattle.report_text.specs.Report.{first_line}
-use Rattle.report_text.specs.Text.{text_of}
-use Rattle.report_text.specs.Inside.TextPut.{line_room, first_room}
-use Rattle.report_text.specs.Inside.Lines.{finding_lines, AllPrintable}
-use Rattle.report_text.proofs.Put.{put_room, put_then}
-use Rattle.report_text.proofs.Lines.{first_line_length}
-use Rattle.report_text.proofs.Whole.{text_is}
-use Rattle.report_text.proofs.Reported.{all_printable, text_reported}
+-- The first line and sixteen others have room, and together they are the report.
+use Rattle.std.proofs.Common.{arith, sym, ap, ◌∙◌, length, length-take}
+use Rattle.report_text.proofs.Reported.{reported, refused}
 use Rattle.report_text.proofs.report_text.Goals as goal
 
-pub put_findings-end-requires : goal.put_findings-end-requires
-put_findings-end-requires c = let e = c.analysis_of_sheet-a.ensures in
-    let h : AllPrintable c.analysis_of_sheet-a.result = rw e (all_printable _) in
-    (h, omega (arith, put_room c.put_first_line-first.ensures first_room (line_room * most_tasks) (first_line_length _ _) (omega arith), h.few_tasks))
+pub shared_ref_as_front-put_findings : goal.shared_ref_as_front-put_findings
+shared_ref_as_front-put_findings c = (reported c.args.sheet.now c.in-Ok.a (sym c.analysis_of_sheet.ensures ∙ c.in-Ok.is)).few_tasks
 
-pub returns : goal.returns
-returns c = let e = c.analysis_of_sheet-a.ensures in
-    text_is _ _ _ (put_then zero-le c.put_first_line-first.ensures c.put_findings-end.ensures)
-    ∙ ap (λ (a : Analysis). text_of (first_line a.outcome a.task_count ++ finding_lines a a.task_count)) e
-    ∙ ap text_of (text_reported _)
+pub put_findings-requires : goal.put_findings-requires
+put_findings-requires c = let h = reported c.args.sheet.now c.in-Ok.a (sym c.analysis_of_sheet.ensures ∙ c.in-Ok.is) in
+    (h.prints, omega (arith, length-take c.in-Ok.a.task_count c.in-Ok.a.findings, h.few_tasks, ap length c.new-page.ensures))
+
+pub returns-in-Ok : goal.returns-in-Ok
+returns-in-Ok c = let h = reported c.args.sheet.now c.in-Ok.a (sym c.analysis_of_sheet.ensures ∙ c.in-Ok.is) in
+    rw (c.put_findings.ensures, c.put_verdict.ensures.text, c.new-page.ensures) h.says
+
+pub returns-in-Err : goal.returns-in-Err
+returns-in-Err c = rw (c.put_refusal.ensures, c.new-page.ensures) (refused c.args.sheet.now c.in-Err.refusal (sym c.analysis_of_sheet.ensures ∙ c.in-Err.is))

@@ -1,12 +1,19 @@
 -- The lines of the tasks as the code prints them: from what the analysis finds of each place.
-use Rattle.std.specs.Prelude.{List, [], ◌∷◌, ◌++◌, ◌≡◌, ℕ, zero, suc, ◌≤◌, ◌<◌, length, take}
+use Rattle.std.specs.Prelude.{List, [], ◌∷◌, map, ℕ, ◌+◌, ◌*◌, ◌≤◌, ◌<◌, take, None, Option, Some}
 use Rattle.sheet.specs.Constants.{most_tasks, most_frames}
-use Rattle.analysis.specs.Findings.{finding_in}
-use Rattle.analysis.specs.declared.Analysis.{Analysis}
 use Rattle.analysis.specs.declared.Finding.{Finding}
-use Rattle.report_text.specs.Words.{decimal, line}
-use Rattle.report_text.specs.Report.{time_words}
+use Rattle.report_text.specs.Words.{missed_word, decimal, line}
 
+-- a word behind others of its line: a space stands before it
+abbrev pub behind : List ℕ → List ℕ
+behind w = 0x20 ∷ w
+
+-- of the slots with times the first n, or once that the task misses
+unfoldable pub found_words : Option (List ℕ) → ℕ → List (List ℕ)
+found_words (Some times) n = map decimal (take n times)
+found_words None n = missed_word ∷ []
+
+-- the line of what is found of a task
 unfoldable pub finding_line : Finding → List ℕ
 finding_line f =
     line (
@@ -14,20 +21,19 @@ finding_line f =
     ∷ decimal f.period
     ∷ decimal f.deadline
     ∷ decimal f.blocked
-    ∷ time_words f.passes (take f.frame_count f.times))
-
--- the first n lines
-unfoldable pub finding_lines : Analysis → ℕ → List ℕ
-finding_lines a zero = []
-finding_lines a (suc n) = finding_lines a n ++ finding_line (finding_in a n)
+    ∷ found_words f.times f.frame_count)
 
 -- within the sheet's limits
 pub record Printable (f : Finding) : Type 0 where
   pub known_number : f.number < most_tasks
-  pub some_frame : 1 ≤ f.frame_count
   pub few_frames : f.frame_count ≤ most_frames
-  pub eight : length f.times ≡ most_frames
 
-pub record AllPrintable (a : Analysis) : Type 0 where
-  pub few_tasks : a.task_count ≤ most_tasks
-  pub each : (p : ℕ) → p < a.task_count → Printable (finding_in a p)
+-- how many bytes at most: a number with the space before it, the line of a task, the first line
+abbrev pub word_room : ℕ
+word_room = 11
+
+abbrev pub line_room : ℕ
+line_room = 3 + word_room * (3 + most_frames)
+
+abbrev pub first_room : ℕ
+first_room = 41

@@ -1,27 +1,21 @@
--- `judge_firsts` meets its contract: the first frames from i on decide.
-use mathlib.Core.Path.{◌≡◌, refl, sym, ◌∙◌}
-use Prim.Native.Nat.{◌≤◌}
-use native.Mathlib.Omega.{arith}
-use borrow.Author.Rules.{rules}
-use lib.ListN.{length}
-use Rattle.sheet.specs.Constants.{most_tasks}
-use Rattle.sheet.specs.Tasks.{no_record}
-use Rattle.sheet.proofs.Records.{mapped_length}
-use Rattle.scripts.proofs.Walk.{slot_wrong, slot_right, slots_end}
+-- `judge_firsts` meets its contract.
+use Rattle.std.proofs.Common.{ℕ, leb, None, Some, arith, ◌∙◌, sym}
+use Rattle.std.proofs.lemmas.List.Quantifiers.{position-Some}
+use Rattle.std.proofs.lemmas.Slice.Zip.{length-zip}
+use Rattle.std.specs.List.{zip}
+use Rattle.theory.specs.Tasks.{frame_count}
+use Rattle.sheet.specs.Tasks.{task_in, no_record}
+use Rattle.sheet.specs.declared.Task.{Task as Record}
+use Rattle.scripts.proofs.Walk.{firsts_judged}
 use Rattle.scripts.proofs.judge_firsts.Goals as goal
 
--- the arrays have their slots
-pub loop-i-init : goal.loop-i-init
-loop-i-init c = (search rules, refl)
+pub overflow_cast-result : goal.overflow_cast-result
+overflow_cast-result c = let a = c.args in
+    let wrong = λ (q : Record × ℕ). leb (frame_count (task_in q.0)) q.1 in
+    omega (arith, position-Some wrong (zip a.tasks.now a.firsts.now) c.in-Some.i (no_record, 0) (sym c.wrong_first.ensures ∙ c.in-Some.is), length-zip a.tasks.now a.firsts.now)
 
-pub returns-then-frame_count-firsts : goal.returns-then-frame_count-firsts
-returns-then-frame_count-firsts c = let a = c.args in
-    slot_wrong a.tasks a.firsts _ ((let it : c.args.count ≤ length c.args.tasks = let long : length c.args.tasks ≡ most_tasks = search (rules, mapped_length) in omega arith in it)) ((let it : c.args.count ≤ length c.args.firsts = search rules in it)) _ no_record c.loop-i-test.true (omega arith) ∙ c.loop-i.invariant.1
+pub returns-in-Some : goal.returns-in-Some
+returns-in-Some c = firsts_judged _ _ (Some c.in-Some.i) c.requires.1 (sym c.in-Some.is ∙ c.wrong_first.ensures)
 
-pub loop-i-preserved : goal.loop-i-preserved
-loop-i-preserved c = let a = c.args in
-    (search rules, sym (slot_right a.tasks a.firsts _ ((let it : c.args.count ≤ length c.args.tasks = let long : length c.args.tasks ≡ most_tasks = search (rules, mapped_length) in omega arith in it)) ((let it : c.args.count ≤ length c.args.firsts = search rules in it)) _ no_record c.loop-i-test.true (omega arith)) ∙ c.loop-i.invariant.1)
-
-pub returns : goal.returns
-returns c = let a = c.args in
-    sym (sym c.loop-i.invariant.1 ∙ slots_end a.tasks a.firsts _ ((let it : c.args.count ≤ length c.args.tasks = let long : length c.args.tasks ≡ most_tasks = search (rules, mapped_length) in omega arith in it)) ((let it : c.args.count ≤ length c.args.firsts = search rules in it)) _ (omega arith))
+pub returns-in-None : goal.returns-in-None
+returns-in-None c = firsts_judged _ _ None c.requires.1 (sym c.in-None.is ∙ c.wrong_first.ensures)

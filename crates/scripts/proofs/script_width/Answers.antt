@@ -1,5 +1,5 @@
 -- `script_width` meets its contract.
-use native.Mathlib.Omega.{arith}
+use Rattle.std.proofs.Common.{arith}
 use Rattle.scripts.proofs.Widths.{width_is}
 use Rattle.scripts.proofs.script_width.Goals as goal
 

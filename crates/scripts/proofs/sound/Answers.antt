@@ -1,18 +1,19 @@
--- `sound` meets its contract: each return by the tests that lead there.
-use mathlib.Core.Path.{ap, ◌∙◌}
-use native.Mathlib.Omega.{arith}
-use lib.Dec.{leb}
-use Rattle.scripts.proofs.Turns.{lock_above, out_of_order, too_early, work_decides}
+-- `sound` meets its contract: the tests in their order.
+use Rattle.std.proofs.Common.{◌≡◌, length, arith, rules}
+use Rattle.std.proofs.lemmas.Bool.Decides.{nat_tests}
+use Rattle.sheet.specs.Tasks.{task_in}
+use Rattle.sheet.proofs.Records.{frame_there, frame_is}
+use Rattle.scripts.specs.Inside.Steps.{sound_turn}
 use Rattle.scripts.proofs.sound.Goals as goal
 
-pub returns-then-task-entry : goal.returns-then-task-entry
-returns-then-task-entry c = lock_above _ _ _ (omega arith)
+pub bounds-task-turn : goal.bounds-task-turn
+bounds-task-turn c = let long : length c.args.task.frames ≡ 8 = search rules in
+    omega (arith, frame_there c.args.task _ c.requires)
 
-pub returns-then-standing-turn : goal.returns-then-standing-turn
-returns-then-standing-turn c = out_of_order _ _ _ (omega arith)
+pub returns-then-turn-entry : goal.returns-then-turn-entry
+unfolding sound_turn task_in
+returns-then-turn-entry c = grind (arith, nat_tests, frame_is c.args.task _ c.requires)
 
-pub returns-then-entry-turn : goal.returns-then-entry-turn
-returns-then-entry-turn c = too_early _ _ _ (omega arith)
-
-pub returns : goal.returns
-returns c = ap (leb _) c.frame.ensures ∙ work_decides _ _ _ (omega arith) (omega arith) (omega arith)
+pub returns-else-turn-entry : goal.returns-else-turn-entry
+unfolding sound_turn task_in
+returns-else-turn-entry c = grind (arith, nat_tests)

@@ -1,5 +1,5 @@
 -- `standing` meets its contract.
-use mathlib.Core.Path.{refl}
+use Rattle.std.proofs.Common.{refl}
 use Rattle.plays.specs.Items.{standing}
 use Rattle.scripts.proofs.standing.Goals as goal
 

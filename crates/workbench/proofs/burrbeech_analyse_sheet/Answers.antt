@@ -2,5 +2,5 @@
 use Rattle.workbench.proofs.Small.{sheet_small}
 use Rattle.workbench.proofs.burrbeech_analyse_sheet.Goals as goal
 
-pub decision_number-requires : goal.decision_number-requires
-decision_number-requires c = rw c.analyse_sheet.ensures.0 (sheet_small _ _)
+pub answer_number-requires : goal.answer_number-requires
+answer_number-requires c = rw c.analyse_sheet.ensures.0 (sheet_small _ _)

@@ -2,5 +2,5 @@
 use Rattle.workbench.proofs.Small.{converted_small}
 use Rattle.workbench.proofs.burrbeech_convert.Goals as goal
 
-pub written_number-requires : goal.written_number-requires
-written_number-requires c = rw c.convert.ensures.0 (converted_small _ _ _)
+pub answer_number-requires : goal.answer_number-requires
+answer_number-requires c = rw c.convert.ensures.0 (converted_small _ _ _)

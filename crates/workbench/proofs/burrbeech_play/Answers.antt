@@ -2,5 +2,5 @@
 use Rattle.workbench.proofs.Small.{play_small}
 use Rattle.workbench.proofs.burrbeech_play.Goals as goal
 
-pub played_number-requires : goal.played_number-requires
-played_number-requires c = rw c.play.ensures (play_small _ _)
+pub answer_number-requires : goal.answer_number-requires
+answer_number-requires c = rw c.play.ensures (play_small _ _)

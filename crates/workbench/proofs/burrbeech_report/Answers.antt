@@ -2,5 +2,5 @@
 use Rattle.workbench.proofs.Small.{report_small}
 use Rattle.workbench.proofs.burrbeech_report.Goals as goal
 
-pub written_number-requires : goal.written_number-requires
-written_number-requires c = rw c.write_report.ensures.0 (report_small _ _)
+pub answer_number-requires : goal.answer_number-requires
+answer_number-requires c = rw c.write_report.ensures.0 (report_small _ _)

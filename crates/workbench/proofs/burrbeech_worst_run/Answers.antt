@@ -2,5 +2,5 @@
 use Rattle.workbench.proofs.Small.{worst_small}
 use Rattle.workbench.proofs.burrbeech_worst_run.Goals as goal
 
-pub worst_number-requires : goal.worst_number-requires
-worst_number-requires c = rw c.worst_run.ensures.0 (worst_small _ _)
+pub answer_number-requires : goal.answer_number-requires
+answer_number-requires c = rw c.worst_run.ensures.0 (worst_small _ _)

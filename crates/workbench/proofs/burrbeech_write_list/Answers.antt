@@ -2,5 +2,5 @@
 use Rattle.workbench.proofs.Small.{written_small}
 use Rattle.workbench.proofs.burrbeech_write_list.Goals as goal
 
-pub written_number-requires : goal.written_number-requires
-written_number-requires c = rw c.write_list.ensures.0 (written_small _ _ _ _)
+pub answer_number-requires : goal.answer_number-requires
+answer_number-requires c = rw c.write_list.ensures.0 (written_small _ _ _ _)

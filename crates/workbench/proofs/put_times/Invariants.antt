@@ -2,5 +2,5 @@
 use Rattle.workbench.proofs.Four.{AtNumbers}
 use Rattle.workbench.proofs.put_times.Given as goal
 
-abbrev pub invariant-loop-p : goal.invariant-loop-p
-invariant-loop-p l = AtNumbers l.a l.initial.bytes l.bytes l.p
+abbrev pub invariant-loop-found : goal.invariant-loop-found
+invariant-loop-found l = AtNumbers l.a l.initial.bytes l.bytes l.found-index

@@ -1,30 +1,26 @@
 -- `put_head` puts first frames and count, one behind the other.
-use mathlib.Core.Path.{◌≡◌, sym, ap}
-use native.Mathlib.Omega.{arith}
-use lib.ListN.{length}
-use lib.Seq.{length-take-le}
+use Rattle.std.proofs.Common.{rules, ◌≡◌, ◌<◌, ℕ, map, length, get_or, take, sym, ap, ◌∙◌, arith}
+use Rattle.std.proofs.lemmas.List.{length-map, get_or-map, ext_get_or, take-map}
 use Rattle.records.proofs.Putting.{row_placed}
-use Rattle.sheet.specs.Constants.{most_tasks}
+use Rattle.worst.specs.Inside.Plans.{no_series, plan_firsts}
 use Rattle.worst.proofs.Putting.{firsts_can, count_can, head_placed}
-use borrow.Author.Rules.{rules}
 use Rattle.worst.proofs.put_head.Goals as goal
 
-pub slice_bounds-append_row-end : goal.slice_bounds-append_row-end
-slice_bounds-append_row-end c = let w = ap length c.first_frame_widths-per_task.ensures in
-    sym (length-take-le _ c.first_frame_widths-per_task.result (omega (arith, c.requires.0.few_tasks)))
-
-pub slice_bounds-firsts-end : goal.slice_bounds-firsts-end
-slice_bounds-firsts-end c = omega (arith, (let it : length c.args.plan.next ≡ most_tasks = search rules in it), c.requires.0.few_tasks)
-
-pub slice_bounds-append_row-end-2 : goal.slice_bounds-append_row-end-2
-slice_bounds-append_row-end-2 c = sym (length-take-le _ c.args.plan.next (omega (arith, (let it : length c.args.plan.next ≡ most_tasks = search rules in it), c.requires.0.few_tasks)))
-
 pub returns : goal.returns
-returns c = let b = c.args.bytes.now in
-    let firsts =
-    row_placed b _ _ _ (firsts_can c.args.plan c.requires.0 ((let it : length c.args.plan.next ≡ most_tasks = search rules in it)) b c.requires.2 _ c.first_frame_widths-per_task.ensures) c.append_row-at.ensures in
+returns c =
+    let plan = c.args.plan in
+    let b = c.args.bytes.now in
+    let sound = c.requires.0 in
+    let items = c.map-firsts.ensures.items in
+    let long : length c.map-firsts.result ≡ 16 = search rules in
+    let at : (i : ℕ) → i < 16 → get_or c.map-firsts.result i 0 ≡ (get_or plan.series i no_series).next = λ i l. let (p, q, e) = items.at i no_series 0 l in search rules in
+    let mapped : c.map-firsts.result ≡ map (λ series. series.next) plan.series =
+    ext_get_or 0 _ _ (long ∙ sym sound.room ∙ sym (length-map plan.series (λ series. series.next)))
+    (λ i l. at i (omega arith) ∙ sym (get_or-map (λ series. series.next) plan.series i no_series 0 (omega (arith, sound.room)))) in
+    let taken : take plan.count c.map-firsts.result ≡ plan_firsts plan = ap (take plan.count) mapped ∙ take-map (λ series. series.next) plan.count plan.series in
+    let put = rw taken at c.append_row-at.ensures in
+    let per_task = c.first_frame_widths-per_task.ensures in
     let widths = c.count_widths-widths.ensures in
-    let count =
-    row_placed _ _ _ _ (count_can c.args.plan c.requires.0 ((let it : length c.args.plan.next ≡ most_tasks = search rules in it)) b c.requires.2 _ c.first_frame_widths-per_task.ensures firsts _ widths _ c.requires.1)
-    c.append_row.ensures in
-    head_placed c.args.plan c.requires.0 ((let it : length c.args.plan.next ≡ most_tasks = search rules in it)) b c.requires.2 _ c.first_frame_widths-per_task.ensures firsts _ widths _ c.requires.1 count
+    let first = row_placed b _ _ _ (firsts_can plan sound b c.requires.2 _ per_task) put in
+    let count = row_placed _ _ _ _ (count_can plan sound b c.requires.2 _ per_task first _ widths _ c.requires.1) c.append_row.ensures in
+    head_placed plan sound b c.requires.2 _ per_task first _ widths _ c.requires.1 count

@@ -1,29 +1,33 @@
 -- `worst_run` meets its contract: the sheet's refusal, or what its set is answered.
-use mathlib.Core.Path.{ap, ◌∙◌}
-use Prim.Native.Nat.{ℕ}
-use Rattle.lent.specs.Lent.{Call, answered, left_after}
-use Rattle.sheet.specs.declared.Answer.TheVariants.{Admitted}
-use Rattle.sheet.specs.declared.Refusal.{Refusal}
-use Rattle.sheet.specs.declared.Refusal.TheVariants.{Room}
+use Rattle.std.specs.Prelude.{Err}
+use Rattle.std.proofs.Common.{◌≡◌, sym, ◌∙◌, rules}
 use Rattle.analysis.proofs.Entries.{sheet_admits}
-use Rattle.worst.specs.declared.Worst.{Worst}
-use Rattle.worst.specs.declared.Worst.TheVariants.{TurnedAway}
-use Rattle.worst.proofs.Outcomes.{sheet_refused, sheet_answer, call_is, sheet_passed}
+use Rattle.worst.proofs.Outcomes.{set_holds, set_miss_is, sheet_refused, sheet_passed}
 use Rattle.worst.proofs.worst_run.Goals as goal
 
-pub returns-in-Refused : goal.returns-in-Refused
-returns-in-Refused c = let room = c.args.script.now in sheet_refused _ room _ (sheet_answer _ room _ c.admit_sheet-judged.ensures _ c.in-Refused.is)
+pub returns-in_err-judged : goal.returns-in_err-judged
+returns-in_err-judged c =
+    let refused = sheet_refused c.args.sheet.now c.args.script.now c.in_err-judged.field-0.0 (sym c.admit_sheet.ensures ∙ c.in_err-judged.was) in
+    let told : c.from_residual.result ≡ Err c.in_err-judged.field-0.0 = search rules in
+    (told ∙ refused.0, refused.1)
 
-pub write_set-requires : goal.write_set-requires
-write_set-requires c = let j = sheet_admits _ _ c.admit_sheet-judged.ensures in
-    (j.admits c.in_default.is, j.shapes_are c.in_default.is)
+pub write_frame-requires-clause-judged : goal.write_frame-requires-clause-judged
+write_frame-requires-clause-judged c = sheet_admits c.args.sheet.now _ (sym c.admit_sheet.ensures ∙ c.in_ok-judged.was)
 
-pub returns : goal.returns
-returns c = let s = c.args.sheet.now in
-    let room = c.args.script.now in
-    let e = c.in_default.is in
-    let call = call_is s room _ c.admit_sheet-judged.ensures e in
-    let p = sheet_passed s room (sheet_answer s room _ c.admit_sheet-judged.ensures Admitted e) in (
-      c.write_set.ensures.0 ∙ ap (λ (x : Call Refusal ℕ Worst). answered Room TurnedAway x room) call ∙ p.0,
-      c.write_set.ensures.1 ∙ ap (λ (x : Call Refusal ℕ Worst). left_after Room x room) call ∙ p.1,
-    )
+pub write_frame-requires-clause-misses : goal.write_frame-requires-clause-misses
+write_frame-requires-clause-misses c =
+    let admitted = sheet_admits c.args.sheet.now _ (sym c.admit_sheet.ensures ∙ c.in_ok-judged.was) in
+    set_miss_is _ _ admitted.admits (sym c.in-Some.is ∙ c.missed_frame.ensures)
+
+pub returns-in-None : goal.returns-in-None
+returns-in-None c =
+    let e = sym c.admit_sheet.ensures ∙ c.in_ok-judged.was in
+    let admitted = sheet_admits c.args.sheet.now _ e in
+    let holds = set_holds _ _ c.args.script.now (set_miss_is _ _ admitted.admits (sym c.in-None.is ∙ c.missed_frame.ensures)) in
+    let passed = sheet_passed c.args.sheet.now c.args.script.now _ e in
+    (holds.0 ∙ passed.0, holds.1 ∙ passed.1)
+
+pub returns-in-Some : goal.returns-in-Some
+returns-in-Some c =
+    let passed = sheet_passed c.args.sheet.now c.args.script.now _ (sym c.admit_sheet.ensures ∙ c.in_ok-judged.was) in
+    (c.write_frame.ensures.0 ∙ passed.0, c.write_frame.ensures.1 ∙ passed.1)

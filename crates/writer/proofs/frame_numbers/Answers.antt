@@ -1,36 +1,30 @@
 -- `frame_numbers` meets its contract.
-use mathlib.Core.Path.{◌≡◌, ap}
-use Prim.Native.Nat.{ℕ, ◌*◌, ◌≤◌, ◌<◌, zero-le}
-use native.Mathlib.Omega.{arith}
-use lib.ListN.{length}
-use Rattle.sheet.specs.Constants.{most_frames}
-use Rattle.sheet.specs.Fields.{frame_fields}
+use Rattle.std.proofs.Common.{rules, ◌*◌, ℕ, ap, arith, ◌∙◌}
+use Rattle.records.proofs.Parts.{take_replicate}
 use Rattle.sheet.proofs.Filled.{none_filled, filled_more}
-use Rattle.writer.proofs.Tasks.{frame_slots, fields_few}
+use Rattle.writer.proofs.Tasks.{Slots, frame_slots, fields_few, fields_long}
 use Rattle.writer.proofs.Numbers.{numbers_many, all_numbers}
-use borrow.Author.Rules.{rules}
 use Rattle.writer.proofs.frame_numbers.Goals as goal
 
-pub overflow_mul-fields : goal.overflow_mul-fields
-overflow_mul-fields c = record { fits = omega (arith, (let it : c.frame_fields.result * c.args.task.frame_count ≤ frame_slots = rw ((ap (λ (n : ℕ). n * c.args.task.frame_count) c.frame_fields.ensures)) (fields_few c.args.own _ c.requires) in it)) }
-
 pub loop-j-init : goal.loop-j-init
-loop-j-init c = (zero-le, (ap (λ (n : ℕ). n * c.args.task.frame_count) c.frame_fields.ensures), (let it : c.frame_fields.result * c.args.task.frame_count ≤ frame_slots = rw ((ap (λ (n : ℕ). n * c.args.task.frame_count) c.frame_fields.ensures)) (fields_few c.args.own _ c.requires) in it), none_filled _ _ _)
+loop-j-init c = let fields = ap (λ (n : ℕ). n * c.args.task.frame_count) c.frame_fields.ensures in
+    let room = fields_few c.args.own _ c.requires in
+    (fields, take_replicate (c.frame_fields.result * c.args.task.frame_count) frame_slots 0 (omega (arith, room, fields)) ∙ none_filled _ _ _)
 
 pub frame_number-requires : goal.frame_number-requires
-frame_number-requires c = (c.requires, rw (← c.loop-j.invariant.1) c.loop-j-test.true)
-
-pub bounds-numbers-j : goal.bounds-numbers-j
-bounds-numbers-j c = omega (arith, c.loop-j.invariant.2)
+frame_number-requires c = let fields = c.loop-j.invariant.0 in
+    let long = fields_long c.args.own _ _ c.requires fields in
+    (c.requires, omega (arith, fields, long, c.loop-j-test.true))
 
 pub loop-j-preserved : goal.loop-j-preserved
-loop-j-preserved c = let h : c.loop-j.j < frame_fields c.args.own * c.args.task.frame_count = rw (← c.loop-j.invariant.1) c.loop-j-test.true in (
-  search rules,
-  c.loop-j.invariant.1,
-  c.loop-j.invariant.2,
-  rw c.loop-j.invariant.3
-      (filled_more frame_slots 0 _ c.loop-j.j 0 _ (rw (numbers_many c.args.task c.requires ((let it : length c.args.task.frames ≡ most_frames = search rules in it)) ((let it : length c.args.task.deadlines ≡ most_frames = search rules in it)) c.args.own) h) (omega (arith, c.loop-j.invariant.2)) c.frame_number.ensures),
-)
+loop-j-preserved c = let slots : Slots c.args.task = record { frames = search rules; deadlines = search rules } in
+    let fields = c.loop-j.invariant.0 in
+    let long = fields_long c.args.own _ _ c.requires fields in
+    let many = numbers_many c.args.task c.requires slots c.args.own in
+    (fields, rw c.loop-j.invariant.1 (filled_more _ 0 _ c.loop-j.j 0 _ (omega (arith, many, fields, long, c.loop-j-test.true)) (omega (arith, long, c.loop-j-test.true)) c.frame_number.ensures))
 
 pub returns : goal.returns
-returns c = rw c.loop-j.invariant.3 (all_numbers c.args.task c.requires ((let it : length c.args.task.frames ≡ most_frames = search rules in it)) ((let it : length c.args.task.deadlines ≡ most_frames = search rules in it)) c.args.own c.loop-j.j (omega (arith, c.loop-j.invariant.0, c.loop-j.invariant.1)))
+returns c = let slots : Slots c.args.task = record { frames = search rules; deadlines = search rules } in
+    let fields = c.loop-j.invariant.0 in
+    let long = fields_long c.args.own _ _ c.requires fields in
+    rw c.loop-j.invariant.1 (all_numbers c.args.task c.requires slots c.args.own _ c.loop-j.j _ fields (omega (arith, long, c.loop-j.auto.j-end, c.loop-j-test.false)))

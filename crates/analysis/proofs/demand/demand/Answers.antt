@@ -1,54 +1,36 @@
 -- `demand` meets its contract: the work of the tasks above is added, from the lowest up.
-use mathlib.Core.List.{List, []}
-use mathlib.Core.Path.{◌≡◌}
-use Prim.Native.Nat.{ℕ, ◌-◌, ◌<◌, ◌^◌}
-use native.Mathlib.Omega.{arith}
-use lib.ListN.{get_or}
-use borrow.Author.Rules.{rules}
-use Rattle.analysis.specs.Inside.Demand.{Counted, released, no_higher, Tallies}
-use Rattle.analysis.proofs.Tallies.{released_bound, added_none, added_more}
+use Rattle.std.proofs.Common.{ℕ, ◌<◌, ◌^◌, arith}
+use Rattle.analysis.specs.Inside.Demand.{Counted, released}
+use Rattle.analysis.specs.declared.demand.Tally.{Tally}
+use Rattle.analysis.proofs.Tallies.{released_bound, added_none, inside, counted_next, added_next, added_all}
 use Rattle.analysis.proofs.demand.demand.Goals as goal
+use Rattle.theory.specs.Analysis.{Higher}
 
--- the next task is counted, and its work is less than the time and its period together
-counted : (count next : ℕ) (table : List (List ℕ)) (tallies : Tallies count table) → next < count
-    → Counted (get_or tallies.tasks next no_higher) (get_or table next [])
-counted count next table tallies inside = tallies.each next inside
+-- the work of a task above is less than the time and its period together
+few : (h : Higher) (tally : Tally) (t : ℕ) → Counted h tally → t < 2 ^ 32 → released h t < 2 ^ 33
+few h tally t is small = omega (arith, released_bound is t, is.tally_of.period_fits)
 
-few : (count next : ℕ) (table : List (List ℕ)) (tallies : Tallies count table) → next < count → (t : ℕ) → t < 2 ^ 32
-    → released (get_or tallies.tasks next no_higher) t < 2 ^ 33
-few count next table tallies inside t small =
-    let one = counted count next table tallies inside in
-    omega (arith, released_bound one t, one.tally_of.period_fits)
-
-pub loop-i-init : goal.loop-i-init
-loop-i-init c = added_none _ _ _ _ _ (search rules) (search rules)
+pub loop-tally-init : goal.loop-tally-init
+loop-tally-init c =
+    (tt, tt, rw (c.into_iter-tally-iterator.ensures.into_iter_gives, c.rev-tally-items.ensures.source, c.iter.ensures.rest) (added_none _ _ _ _ c.ranges.blocked.fits c.ranges.own.fits))
 
 pub released-total-requires : goal.released-total-requires
-released-total-requires c =
-    let tallies = c.requires.2 in
-    let inside : c.loop-i.i - 1 < c.args.count = omega (arith, c.loop-i.invariant.inside) in
-    (omega (arith, c.loop-i.invariant.inside), c.requires.0, (get_or tallies.tasks (c.loop-i.i - 1) no_higher, counted _ _ _ tallies inside))
+released-total-requires c = (c.requires.0, (_, counted_next _ _ _ _ _ _ _ _ c.loop-tally.invariant.2 c.in-Some.ensures.steps c.requires.1))
 
-pub overflow_add-total-in-loop-i : goal.overflow_add-total-in-loop-i
-overflow_add-total-in-loop-i c =
-    let tallies = c.requires.2 in
-    let inside : c.loop-i.i - 1 < c.args.count = omega (arith, c.loop-i.invariant.inside) in
-    record {
-      fits =
-          omega (
-            arith,
-            c.released-total.ensures _ (counted _ _ _ tallies inside),
-            few _ _ _ tallies inside c.args.t c.ranges.t.fits,
-            c.loop-i.invariant.small,
-            c.requires.1,
-          );
-    }
+pub overflow_add-total-in-loop-tally : goal.overflow_add-total-in-loop-tally
+overflow_add-total-in-loop-tally c =
+    let is = counted_next _ _ _ _ _ _ _ _ c.loop-tally.invariant.2 c.in-Some.ensures.steps c.requires.1 in
+    record { fits = omega (arith, c.released-total.ensures _ is, few _ _ c.args.t is c.ranges.t.fits, c.loop-tally.invariant.2.small, inside _ _ _ _ _ _ _ _ c.loop-tally.invariant.2 c.in-Some.ensures.steps, c.requires.1.few) }
 
-pub loop-i-preserved : goal.loop-i-preserved
-loop-i-preserved c =
-    let inside : c.loop-i.i - 1 < c.args.count = omega (arith, c.loop-i.invariant.inside) in
-    added_more _ _ _ _ _ (omega arith) c.loop-i.invariant (λ tallies. c.released-total.ensures _ (counted _ _ _ tallies inside))
-    (omega (arith, c.released-total.ensures _ (counted _ _ _ c.requires.2 inside), few _ _ _ c.requires.2 inside c.args.t c.ranges.t.fits))
+pub loop-tally-preserved : goal.loop-tally-preserved
+loop-tally-preserved c =
+    let is = counted_next _ _ _ _ _ _ _ _ c.loop-tally.invariant.2 c.in-Some.ensures.steps c.requires.1 in (
+      tt,
+      tt,
+      added_next _ _ _ _ _ _ _ _ c.loop-tally.invariant.2 c.in-Some.ensures.steps _
+          (λ tallies. c.released-total.ensures _ (counted_next _ _ _ _ _ _ _ _ c.loop-tally.invariant.2 c.in-Some.ensures.steps tallies))
+          (omega (arith, c.released-total.ensures _ is, few _ _ c.args.t is c.ranges.t.fits)),
+    )
 
 pub returns : goal.returns
-returns c tallies = let done : c.loop-i.i ≡ 0 = omega arith in (rw done at c.loop-i.invariant).is_demand tallies
+returns c = added_all _ _ _ _ c.loop-tally.invariant.2 c.in-None.ensures.steps.0

@@ -2,8 +2,8 @@
 use Rattle.analysis.proofs.Tallies.{Added}
 use Rattle.analysis.proofs.demand.demand.Given as goal
 
-abbrev pub invariant-loop-i : goal.invariant-loop-i
-invariant-loop-i l = Added l.count l.above l.blocked l.own l.t l.i l.total
-
-abbrev pub decreases-loop-i : goal.decreases-loop-i
-decreases-loop-i l = l.i
+abbrev pub invariant-loop-tally : goal.invariant-loop-tally
+invariant-loop-tally l =
+    (goal.iterator-loop-tally).can_next l.tally-iterator
+    × (goal.iterator-loop-tally).is_finite l.tally-iterator
+    × Added l.above l.blocked l.own l.t l.tally-iterator.iter.rest.now l.total

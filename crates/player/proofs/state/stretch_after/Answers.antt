@@ -8,4 +8,4 @@ pub returns-then-left-eq0 : goal.returns-then-left-eq0
 returns-then-left-eq0 c = stretch_ends _ _ (omega arith)
 
 pub returns : goal.returns
-returns c = c.less_one.ensures ∙ stretch_goes _ _ (omega arith)
+returns c = c.saturating_sub.ensures ∙ stretch_goes _ _ (omega arith)

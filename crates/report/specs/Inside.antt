@@ -1,2 +1,0 @@
--- Definitions that only private contracts use.
-pub mod Input

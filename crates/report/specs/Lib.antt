@@ -1,2 +1,0 @@
--- A program has private contracts only. Inside: their words.
-pub mod Inside

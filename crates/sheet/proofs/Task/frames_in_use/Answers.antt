@@ -1,0 +1,7 @@
+-- `Task::frames_in_use` meets its contract.
+use Rattle.std.proofs.Common.{rules}
+use Rattle.sheet.proofs.Records.{frames_used}
+use Rattle.sheet.proofs.Task.frames_in_use.Goals as goal
+
+pub returns-clause-are : goal.returns-clause-are
+returns-clause-are c = frames_used c.args.self.now _ (c.in_use.ensures, search rules)
