@@ -91,7 +91,7 @@ pub fn findings_of(o: &Ordered, shapes: [Shape; Sheet::TASK_ROOM]) -> [Finding; 
     let tallies = tallies_of(o, shapes);
     let mut findings = [Finding::default(); Sheet::TASK_ROOM];
     for (p, place) in o.in_use().iter().enumerate() {
-        let blocked = order::blocking(*o, p as u32);
+        let blocked = order::blocking(o, p as u32);
         findings[p] = finding_of(&tallies[..p], place.number, blocked, place.task);
     }
     findings

@@ -36,7 +36,7 @@ pub fn first_of(o: &Ordered, shapes: [Shape; Sheet::TASK_ROOM]) -> Option<Missed
 {
     let tallies = tallies_of(o, shapes);
     for (p, place) in o.in_use().iter().enumerate() {
-        let blocked = order::blocking(*o, p as u32);
+        let blocked = order::blocking(o, p as u32);
         if let Some(frame) = frame_without(&tallies[..p], blocked, place.task) {
             let place = p as u32;
             return Some(MissedFrame { place, frame });
