@@ -1,17 +1,16 @@
 -- A few bytes as one number, high byte first: what the loops over a field's bytes compute.
-use Rattle.std.specs.Int.{w64, to_be_bytes}
-use mathlib.Core.List.{List, [], ◌∷◌, append-nil}
+use mathlib.Core.List.{List, [], ◌∷◌, ◌++◌, append-nil}
 use mathlib.Core.Path.{◌≡◌, refl, ap, ◌∙◌}
 use Prim.Native.Nat.{ℕ, zero, suc, ◌+◌, ◌-◌, ◌*◌, ◌/◌, ◌%◌, ◌^◌, ◌≤◌, ◌<◌}
-use native.Mathlib.Nat.{div-one, mod-eq_of_lt, lt_of_lt_of_le}
+use native.Mathlib.Nat.{zero-add, mod-eq_of_lt, lt_of_lt_of_le}
 use native.Mathlib.Numerals.{add-one}
 use native.Mathlib.Omega.{arith}
 use lib.Bits.{bit_or, or_shifted}
-use lib.ListN.{length, get_or, take, drop, length-take}
+use lib.ListN.{length, get_or, take, drop, set, length-append, length-take, length-drop, drop_of_length-le}
 use lib.Pow.{pow_mono}
-use lib.Seq.{take-suc, take_at, drop_at}
+use lib.Seq.{take-suc, take_at, drop_at, take_all, paste-suc}
 use Rattle.bits.specs.Packed.{value, digits, Bytes, bits_of, bytes_of}
-use Rattle.bits.proofs.Laws.{value_append, value_digits, value_lt, length_bits, bits_append, digits_split, length_digits, eight_more}
+use Rattle.bits.proofs.Laws.{value_append, value_digits, value_lt, length_bits, bits_append, digits_split, length_digits, length_bytes, eight_more}
 
 -- the number of a byte string is below 256 for each byte
 pub number_lt : (s : List ℕ) (k : ℕ) → length s ≤ k → value (bits_of s) < 2 ^ (8 * k)
@@ -44,13 +43,24 @@ byte_of zero n i h = absurd (omega arith)
 byte_of (suc m) n zero h = rw bytes_more (ap (λ (k : ℕ). n / 2 ^ (8 * k) % 256) (omega arith))
 byte_of (suc m) n (suc i) h = rw bytes_more (byte_of m n i (omega arith) ∙ ap (λ (k : ℕ). n / 2 ^ (8 * k) % 256) (omega arith))
 
--- the last bytes of all eight
-pub last_bytes : (k n : ℕ) → k ≤ 5 → take (8 - (8 - k)) (drop (8 - k) (to_be_bytes w64 n)) ≡ bytes_of k (digits (8 * k) n)
-unfolding bytes_of
-last_bytes zero n h = refl
-last_bytes (suc zero) n h = rw (bytes_more 0 n, div-one n)
-last_bytes (suc (suc zero)) n h = rw (bytes_more 1 n, bytes_more 0 n, div-one n)
-last_bytes (suc (suc (suc zero))) n h = rw (bytes_more 2 n, bytes_more 1 n, bytes_more 0 n, div-one n)
-last_bytes (suc (suc (suc (suc zero)))) n h = rw (bytes_more 3 n, bytes_more 2 n, bytes_more 1 n, bytes_more 0 n, div-one n)
-last_bytes (suc (suc (suc (suc (suc zero))))) n h = rw (bytes_more 4 n, bytes_more 3 n, bytes_more 2 n, bytes_more 1 n, bytes_more 0 n, div-one n)
-last_bytes (suc (suc (suc (suc (suc (suc k)))))) n h = absurd (omega arith)
+-- the loop that writes a number's bytes over `d`: what stands there after i turns
+pub written : List ℕ → ℕ → ℕ → List ℕ
+written d n i = take i (bytes_of (length d) (digits (8 * length d) n)) ++ drop i d
+
+pub none_written : (d : List ℕ) (n : ℕ) → d ≡ written d n 0
+unfolding written
+none_written d n = refl
+
+pub length_written : (d : List ℕ) (n i : ℕ) → i ≤ length d → length (written d n i) ≡ length d
+unfolding written
+length_written d n i h = simp (length-append, length-take, length-drop, length_bytes) (omega arith)
+
+pub written_more : (d : List ℕ) (n i : ℕ) → i < length d → set (written d n i) i (n / 2 ^ (8 * (length d - 1 - i)) % 256) ≡ written d n (i + 1)
+unfolding written
+written_more d n i h =
+    rw (← byte_of (length d) n i h, add-one i)
+    (simp zero-add at (paste-suc d 0 (bytes_of (length d) (digits (8 * length d) n)) i 0 (omega arith) (rw length_bytes h)))
+
+pub all_written : (d : List ℕ) (n i : ℕ) → length d ≤ i → written d n i ≡ bytes_of (length d) (digits (8 * length d) n)
+unfolding written
+all_written d n i h = rw (drop_of_length-le d h, append-nil) (take_all i _ (rw length_bytes h))

@@ -32,8 +32,11 @@ fn hold_number(bytes: &mut [u8], n: u64)
     requires { length bytes.old ≤ 5 }
     ensures { bytes.new ≡ bytes_of (length bytes.old) (digits (8 * length bytes.old) n) }
 {
-    let all = n.to_be_bytes();
-    bytes.copy_from_slice(&all[all.len() - bytes.len()..]);
+    let count = bytes.len();
+    // byte by byte, since a copy of any other length than a fixed one is a call
+    for i in 0..count {
+        bytes[i] = ((n >> (8 * (count - 1 - i))) % 256) as u8;
+    }
 }
 
 // The bytes that a field touches, from `first` up to `end`, and how many bits of the last one are past it.

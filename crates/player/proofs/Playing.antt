@@ -33,7 +33,7 @@ use Rattle.scripts.specs.Reading.{firsts_in}
 use Rattle.scripts.proofs.Entries.{firsts_in_slots}
 use Rattle.player.specs.Answers.{ended}
 use Rattle.player.specs.State.{never, at_rest, released, picked_by, ticked, misser_in, looking_ahead, shown_byte}
-use Rattle.player.specs.Inside.Course.{upcoming, Stage, FramesOn, Going, Gone, Calmly, order_on, done_with, the_end, shown_on}
+use Rattle.player.specs.Inside.Course.{upcoming, Stage, FramesOn, Going, Gone, Calmly, order_on, done_with, the_end, shown_on, with_player}
 use Rattle.player.specs.declared.state.Player.{Player}
 use Rattle.player.specs.declared.course.Cast.{Cast}
 use Rattle.player.specs.declared.course.Progress.{Progress}
@@ -141,6 +141,10 @@ module _ {s : List ℕ} {cast : Cast} (stage : Stage s cast) where
       (λ in_row e. ne (ap (λ x. x.tick) (is ∙ next_entry at.released in_row) ∙ e)) in
       record { seen = seen; frames_then = rw (add-one t) nexts; next_is = is }
 
+  -- no entry of the tick comes next
+  pub none_released : (t : ℕ) (at : Progress) → Going stage t at → ¬ (at.next.tick ≡ t) → Gone stage t at
+  none_released t at going ne = all_seen t at (release_starts t at going) going.next_is ne
+
   -- ---- from moment to moment
 
   -- before the first tick
@@ -216,14 +220,14 @@ module _ {s : List ℕ} {cast : Cast} (stage : Stage s cast) where
         rw e at (ends_at t (over_by_miss order_here tasks_here sc_here t e) going.not_over)
 
     -- none does: the player looks ahead
-    abbrev pub calm_ahead : misser_in at.player (length (order_on stage)) t ≡ None → t < never → (player : Player) → player ≡ looking_ahead at.player t
-        → Calmly s cast t (record { player = player; frames = at.frames; released = at.released; next = at.next })
-    calm_ahead found soon player ahead =
+    abbrev pub calm_ahead : misser_in at.player (length (order_on stage)) t ≡ None → t < never → (then : Progress) → then ≡ with_player at (looking_ahead at.player t) → Calmly s cast t then
+    calm_ahead found soon then ahead =
         record {
           stage = stage;
           going =
+              rw ahead
               record {
-                in_play = rw ahead (ahead_in_play order_here tasks_here sc_here stage.ready t at.released at.player going.in_play);
+                in_play = ahead_in_play order_here tasks_here sc_here stage.ready t at.released at.player going.in_play;
                 frames_now = going.frames_now;
                 next_is = going.next_is;
                 not_over = going.not_over;

@@ -1,7 +1,7 @@
 // The course of a play, moment by moment: misses, a look ahead, releases, pick, tick.
 ghost use Rattle.std.specs.Prelude.{◌≡◌, length};
 ghost use Rattle.lent.specs.Lent.{laid};
-ghost use Rattle.player.specs.Inside.Course.{upcoming, Stage, Going, Gone, Calmly, done_with, the_end, Traceable, shown_on};
+ghost use Rattle.player.specs.Inside.Course.{upcoming, Stage, Going, Gone, Calmly, with_player, done_with, the_end, Traceable, shown_on};
 
 use crate::Played;
 use crate::state::{NEVER, Player};
@@ -78,11 +78,11 @@ impl Progress {
         }
     }
 
-    // All jobs are done: every entry is released, and no task has the tick.
-    fn all_done(&self, entries: u32) -> bool
-        ensures { result ≡ done_with entries self.now }
+    // All jobs are done: every entry is released, and the player has picked no task.
+    fn all_done(&self, player: &Player, entries: u32) -> bool
+        ensures { result ≡ done_with entries (with_player self.now player.now) }
     {
-        entries <= self.released && self.player.picked.is_none()
+        entries <= self.released && player.picked.is_none()
     }
 }
 
@@ -97,13 +97,18 @@ pub fn play_on(script: &[u8], cast: &Cast) -> Played
         if let Some(task) = at.player.misser(order.len(), moment) {
             return Played::Missed(moment, task);
         }
-        at.player = at.player.look_ahead(moment);
-        at.releases(script, cast, moment);
-        at.player = at.player.pick(order);
-        if at.all_done(cast.entries) {
+        // most moments are before the soonest
+        if at.player.soonest <= moment {
+            at.player = at.player.look_ahead(moment);
+        }
+        if at.next.tick == moment {
+            at.releases(script, cast, moment);
+        }
+        let player = at.player.pick(order);
+        if at.all_done(&player, cast.entries) {
             return Played::Done(moment);
         }
-        at.player = at.player.tick();
+        at.player = player.tick();
     }
     // every play has ended by the last moment
     unreachable!()
@@ -117,9 +122,11 @@ pub fn trace_on(script: &[u8], cast: &Cast, end: u32, ticks: &mut [u8])
     let order = &cast.order[..cast.count as usize];
     let mut at = Progress::start(script, cast);
     for moment in 0..end {
-        at.releases(script, cast, moment);
-        at.player = at.player.pick(order);
-        ticks[moment as usize] = at.player.shown();
-        at.player = at.player.tick();
+        if at.next.tick == moment {
+            at.releases(script, cast, moment);
+        }
+        let player = at.player.pick(order);
+        ticks[moment as usize] = player.shown();
+        at.player = player.tick();
     }
 }

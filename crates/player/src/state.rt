@@ -100,6 +100,7 @@ fn stretch_after(left: u32, length: u32) -> u32
     length.saturating_sub(1)
 }
 
+// A pick and a tick make the state that they return once, at their end: where two ways each make one, it is copied again as they meet.
 impl Player {
     // Nothing is pending when a run begins.
     pub fn start() -> Player
@@ -129,30 +130,38 @@ impl Player {
     }
 
     // The task that has the tick is chosen: that of a stretch under way, else the first in the order with work left.
-    pub fn pick(mut self, order: &[u32]) -> Player
+    pub fn pick(self, order: &[u32]) -> Player
         requires { All (λ i. i < most_tasks) order.now }
         ensures { result ≡ picked_by order.now self }
     {
-        if self.to_come == 0 {
-            self.picked = first_pending(&self.jobs, order);
-        }
-        self
+        let picked = if 0 < self.to_come {
+            self.picked
+        } else {
+            first_pending(&self.jobs, order)
+        };
+        Player { picked, ..self }
     }
 
     // The tick is given to the task picked.
-    pub fn tick(mut self) -> Player
+    pub fn tick(self) -> Player
         ensures { result ≡ ticked self }
     {
+        let mut jobs = self.jobs;
+        let mut to_come = self.to_come;
         if let Some(i) = self.picked
             && i < Sheet::MOST_TASKS
         {
-            let job = self.jobs[i as usize];
-            let length = stretch(self.to_come, job.lock);
+            let job = jobs[i as usize];
+            let length = stretch(to_come, job.lock);
             let left = job.left.saturating_sub(1);
-            self.jobs[i as usize].left = left;
-            self.to_come = stretch_after(left, length);
+            jobs[i as usize] = Job { left, ..job };
+            to_come = stretch_after(left, length);
         }
-        self
+        Player {
+            jobs,
+            to_come,
+            ..self
+        }
     }
 
     // The lowest-numbered of the first tasks whose job has work left at the moment by which it is due, looked for from the soonest moment on.

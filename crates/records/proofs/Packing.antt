@@ -1,11 +1,10 @@
 -- Laws of fields one after another, over any widths: what was packed is unpacked, what was unpacked packs to the same bits.
-use Rattle.std.specs.List.{fold}
-use Rattle.records.specs.Faces.{last_position, width_of}
 use mathlib.Core.Bool.{Bool}
 use mathlib.Core.List.{List, [], ◌∷◌, ◌++◌, append_assoc, append-nil}
 use mathlib.Core.Path.{◌≡◌, refl, sym, ap, ap₂, ◌∙◌}
-use Prim.Native.Nat.{ℕ, zero, suc, ◌+◌, ◌*◌, ◌^◌, ◌≤◌, ◌<◌, min}
+use Prim.Native.Nat.{ℕ, zero, suc, ◌+◌, ◌*◌, ◌^◌, ◌≤◌, ◌<◌}
 use native.Mathlib.Nat.{mod-eq_of_lt, lt_of_lt_of_le}
+use native.Mathlib.Numerals.{add-one}
 use native.Mathlib.Omega.{arith}
 use lib.ListN.{length, get_or, take, drop, replicate, length-append, length-take, length-drop}
 use lib.Pow.{pow_mono}
@@ -102,14 +101,5 @@ total_part [] i h = let z : ⊥ = omega arith in absurd z
 total_part (w ∷ ws) zero h = omega arith
 total_part (w ∷ ws) (suc i) h = omega (arith, total_part ws i (omega arith))
 
--- a sum that stops at the greatest position
-abbrev pub stops_at : ℕ → ℕ → ℕ
-stops_at a w = min (a + w) last_position
-
-saturated_from : (ws : List ℕ) (a : ℕ) → a ≤ last_position → fold stops_at a ws ≡ min (a + total ws) last_position
-unfolding total
-saturated_from [] a h = omega arith
-saturated_from (w ∷ ws) a h = saturated_from ws (stops_at a w) (omega arith) ∙ omega arith
-
-pub saturated : (ws : List ℕ) → fold stops_at 0 ws ≡ width_of ws
-saturated ws = saturated_from ws 0 (omega arith) ∙ omega arith
+pub total_to : (ws : List ℕ) (i : ℕ) → i < length ws → total (take (i + 1) ws) ≡ total (take i ws) + get_or ws i 0
+total_to ws i h = ap (λ (k : ℕ). total (take k ws)) (add-one i) ∙ total_more ws i h

@@ -105,9 +105,15 @@ pub fn take_row(bytes: &[u8], at: usize, widths: &[usize], numbers: &mut [u32]) 
 pub fn width_of(widths: &[usize]) -> usize
     ensures { result ≡ width_of widths.now }
 {
-    widths
-        .iter()
-        .fold(0, |sum, &width| sum.saturating_add(width))
+    let mut sum: usize = 0;
+    for &width in widths {
+        // what follows adds nothing more
+        let Some(more) = sum.checked_add(width) else {
+            return usize::MAX;
+        };
+        sum = more;
+    }
+    sum
 }
 
 // Whether fewer than eight zeros stand from a bit position on, where the last field ends.

@@ -52,7 +52,7 @@ fn fail(rt: &HostRuntime, what: &str, error: io::Error) -> ExitCode {
 
 fn print_report(rt: &HostRuntime, sheet: &[u8]) -> ExitCode {
     let text = report_text::report_text(sheet);
-    match print(rt, &text) {
+    match print(rt, &text.bytes[..text.length]) {
         Ok(()) => ExitCode::SUCCESS,
         Err(e) => fail(rt, "standard output cannot be written", e),
     }

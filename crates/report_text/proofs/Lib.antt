@@ -3,4 +3,5 @@ pub mod Decimal
 pub mod Line
 pub mod Lines
 pub mod Reported
+pub mod Whole
 pub mod Written

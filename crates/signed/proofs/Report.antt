@@ -7,7 +7,7 @@ use mathlib.Core.Path.{◌≡◌, refl, sym, ap, ap₂, ◌∙◌, subst}
 use Prim.Native.Nat.{ℕ, zero, suc, ◌+◌, ◌^◌, ◌≤◌, ◌<◌}
 use native.Mathlib.Omega.{arith}
 use lib.ListN.{length, take}
-use lib.Seq.{drop_at}
+use lib.Seq.{take_at, drop_at}
 use Rattle.theory.specs.Tasks.{Task, task_at, frame_count, shortest_deadline}
 use Rattle.theory.specs.Analysis.{lower, blocking, passes}
 use Rattle.lent.specs.Lent.{laid}
@@ -29,14 +29,20 @@ use Rattle.analysis.proofs.TimesAt.{length_times}
 use Rattle.analysis.proofs.Promises.{holds_then_passes, missed_names, times_of_place}
 use Rattle.report_text.specs.Words.{holds_word, missed_word, refused_word, decimal, line}
 use Rattle.report_text.specs.Report.{blocker_word, first_line, time_words, task_line, task_lines, report}
+use Rattle.report_text.specs.Text.{text_of}
 use Rattle.report_text.proofs.Reported.{report_fits}
 use Rattle.signed.specs.Claims.{missed, refused, said, in_numbers, WorstTime, Signed}
-use Rattle.signed.specs.Reports.{words_in, blocker_in, said_in, task_words, TimedWords, MissedWords, WordsUpTo, lines, Lines, ReportSigned, ReportLeft}
+use Rattle.signed.specs.Reports.{words_in, blocker_in, said_in, task_words, TimedWords, MissedWords, WordsUpTo, lines, Lines, text_in, ReportSigned, ReportLeft}
 use Rattle.signed.proofs.Words.{Plain, AllPlain, words_of_line, decimal_plain, decimal_no_dash, number_read}
 use Rattle.signed.proofs.Numbers.{refusal_range, Twelve}
 use Rattle.signed.proofs.Times.{worst_time, some_miss}
 use Rattle.signed.proofs.Promised.{laid_signed}
 use Rattle.signed.proofs.Entries.{Sound, Reported, no_report, is_reported, report_entry, Printed, no_room, is_printed}
+
+-- the text that a report has
+pub text_back : (l : List ℕ) → text_in (text_of l) ≡ l
+unfolding text_in text_of
+text_back l = take_at l _ (length l) refl
 
 -- ---- the first line
 

@@ -43,12 +43,12 @@ use Rattle.converter.specs.Converting.{converting_checks, conversion, converted}
 use Rattle.report_text.specs.Words.{refused_word, decimal, line}
 use Rattle.report_text.specs.Report.{first_line, report}
 use Rattle.report_text.specs.Text.{report_written}
-use Rattle.arrayvec.specs.ArrayVec.{ArrayVec}
+use Rattle.report_text.specs.declared.Text.{Text}
 use Rattle.signed.specs.Calls.{Keeps, ReportText, WriteReport, AnalyseSet, AnalyseSheet, AnalyseList, ReadList, WriteList, Convert, CheckSheetC, AnalyseSheetC, AnalyseListC, ReadListC, WriteListC, ConvertC, ReportC}
 use Rattle.signed.specs.Claims.{said, outcome_told, count_told, count_said, holds, missed, refused, in_numbers, in_bytes, WorstTime, Signed, refusal_to, NoStart, Explained, Damaged}
 use Rattle.signed.specs.Numbers.{blocker_by, said_by, IsNumber, list_read_by, written_by, decision_by}
-use Rattle.signed.specs.Reports.{words_in, said_in, ReportSigned, ReportLeft}
-use Rattle.signed.proofs.Report.{not_refusing, refusing, report_promised, printed_signed, printed_text}
+use Rattle.signed.specs.Reports.{words_in, said_in, text_in, ReportSigned, ReportLeft}
+use Rattle.signed.proofs.Report.{text_back, not_refusing, refusing, report_promised, printed_signed, printed_text}
 use Rattle.signed.proofs.Read.{decided_ok}
 use Rattle.signed.proofs.Numbers.{miss_said, refusal_said, said_back, written_back, read_back, decision_back}
 use Rattle.signed.proofs.Entries as entries
@@ -195,12 +195,12 @@ check_sheet_c_turned sheet before after number c =
     )
 
 -- a sheet that is not admitted is reported as refused, by its number; one that is admitted is not
-pub report_text_turned : (sheet : List ℕ) (answer : ArrayVec ℕ)
+pub report_text_turned : (sheet : List ℕ) (answer : Text)
     → ReportText sheet answer
-    → ((why : Refusal) → reading sheet ≡ Err why → said_in (words_in answer.items) ≡ refused (number_of why))
-    × (IsOk (reading sheet) → (number : ℕ) → ¬ (said_in (words_in answer.items) ≡ refused number))
+    → ((why : Refusal) → reading sheet ≡ Err why → said_in (words_in (text_in answer)) ≡ refused (number_of why))
+    × (IsOk (reading sheet) → (number : ℕ) → ¬ (said_in (words_in (text_in answer)) ≡ refused number))
 report_text_turned sheet answer c =
-    let text : answer.items ≡ report sheet = c.answers in (
+    let text : text_in answer ≡ report sheet = ap text_in c.answers ∙ text_back (report sheet) in (
       λ why e.
           ap (λ (l : List ℕ). said_in (words_in l)) (text ∙ entries.report_turned sheet why (one_applies (sheet_checks sheet) why (reading_refuses sheet why e)))
           ∙ refusing (policy_of sheet) (tasks_of sheet) why,
@@ -346,10 +346,10 @@ module _ (sheet changed : List ℕ) (admitted : IsOk (reading sheet)) (damaged :
       → (list_read_by number ≡ Err CheckWord) × (after ≡ before)
   read_list_c_damaged before after number c = read_list_damaged before after (list_read_by number) (read_list_c_says changed before after number c)
 
-  pub report_text_damaged : (answer : ArrayVec ℕ) → ReportText changed answer → answer.items ≡ line (refused_word ∷ decimal 2 ∷ [])
+  pub report_text_damaged : (answer : Text) → ReportText changed answer → text_in answer ≡ line (refused_word ∷ decimal 2 ∷ [])
   unfolding first_line
   report_text_damaged answer c =
-      c.answers ∙ entries.report_turned changed CheckWord (damage.damaged_is_2 sheet changed admitted damaged)
+      ap text_in c.answers ∙ text_back (report changed) ∙ entries.report_turned changed CheckWord (damage.damaged_is_2 sheet changed admitted damaged)
 
 -- ---- Demand 2, of lists
 
@@ -492,11 +492,11 @@ analyse_list_c_signed policy list before after number c =
     analyse_list_signed policy list before after (decision_by number) (analyse_list_c_says policy list before after number c)
 
 -- `report_text`: what the first line says, and the line of each task
-pub report_text_signed : (sheet : List ℕ) (answer : ArrayVec ℕ)
+pub report_text_signed : (sheet : List ℕ) (answer : Text)
     → ReportText sheet answer
-    → ReportSigned (policy_of sheet) (tasks_of sheet) answer.items (said_in (words_in answer.items))
+    → ReportSigned (policy_of sheet) (tasks_of sheet) (text_in answer) (said_in (words_in (text_in answer)))
 report_text_signed sheet answer c =
-    rw c.answers (report_promised (policy_of sheet) (tasks_of sheet) (report sheet) (entries.report_entry sheet))
+    rw (ap text_in c.answers ∙ text_back (report sheet)) (report_promised (policy_of sheet) (tasks_of sheet) (report sheet) (entries.report_entry sheet))
 
 -- the same of its text in lent bytes
 pub write_report_signed : (sheet before after : List ℕ) (answer : Result ℕ Refusal)
@@ -571,8 +571,8 @@ one_convert version sheet before x y a b c d = one_call c d
 pub one_convert_c : (version : ℕ) (sheet before x y : List ℕ) (a b : ℕ) → ConvertC version sheet before a x → ConvertC version sheet before b y → (a ≡ b) × (x ≡ y)
 one_convert_c version sheet before x y a b c d = one_call c d
 
-pub one_report_text : (sheet : List ℕ) (a b : ArrayVec ℕ) → ReportText sheet a → ReportText sheet b → a ≡ b
-one_report_text sheet a b c d = ap (λ (l : List ℕ). record { items = l }) (c.answers ∙ sym d.answers)
+pub one_report_text : (sheet : List ℕ) (a b : Text) → ReportText sheet a → ReportText sheet b → a ≡ b
+one_report_text sheet a b c d = c.answers ∙ sym d.answers
 
 pub one_write_report : (sheet before x y : List ℕ) (a b : Result ℕ Refusal) → WriteReport sheet before a x → WriteReport sheet before b y → (a ≡ b) × (x ≡ y)
 one_write_report sheet before x y a b c d = one_call c d

@@ -13,8 +13,8 @@ use Rattle.workbench.specs.Entry.{entry_number, entry_left}
 use Rattle.workbench.specs.Numbers.{read_number, written_number, decision_number, played_number, worst_number}
 use Rattle.worst.specs.Writing.{worst_answer, worst_left}
 use Rattle.report_text.specs.Report.{report}
-use Rattle.report_text.specs.Text.{report_written, report_left}
-use Rattle.arrayvec.specs.ArrayVec.{ArrayVec}
+use Rattle.report_text.specs.Text.{text_of, report_written, report_left}
+use Rattle.report_text.specs.declared.Text.{Text}
 use Rattle.player.specs.Answers.{played, traced, trace_left}
 use Rattle.player.specs.declared.Played.{Played}
 use Rattle.player.specs.declared.PlayRefusal.{PlayRefusal}
@@ -53,8 +53,8 @@ abbrev pub Convert : (version : ℕ) → (sheet before : List ℕ) → Result �
 Convert version sheet before = Keeps (converted version sheet before) (converted_left version sheet before)
 
 -- `report_text`: the text of a report
-abbrev pub ReportText : List ℕ → ArrayVec ℕ → Type 0
-ReportText sheet answer = Answers (report sheet) answer.items
+abbrev pub ReportText : List ℕ → Text → Type 0
+ReportText sheet = Answers (text_of (report sheet))
 
 -- `write_report`: the text of a report to lent bytes
 abbrev pub WriteReport : (sheet before : List ℕ) → Result ℕ Refusal → List ℕ → Type 0

@@ -10,6 +10,7 @@ use Rattle.analysis.specs.Times.{number_at}
 use Rattle.analysis.specs.Runs.{place}
 use Rattle.report_text.specs.Words.{holds_word, missed_word, refused_word, decimal, line}
 use Rattle.report_text.specs.Report.{blocker_word}
+use Rattle.report_text.specs.declared.Text.{Text}
 use Rattle.signed.specs.Claims.{Said, holds, missed, refused, NoMiss, SomeMiss, WorstTime, Named}
 
 -- ---- words read from bytes
@@ -84,6 +85,10 @@ pub record Lines (n : ℕ) (Words : ℕ → List (List ℕ) → Type 0) (text : 
   pub words : ℕ → List (List ℕ)
   pub whole : text ≡ line (words_in text) ++ lines words 0 n
   pub each : (q : ℕ) → q < n → Words q (words q)
+
+-- the bytes of a report that are its text
+unfoldable pub text_in : Text → List ℕ
+text_in t = take t.length t.bytes
 
 -- What we sign for a report on these tasks, by what its first line says: the words of that line, and the line of each task.
 unfoldable pub ReportSigned : ℕ → List Task → List ℕ → Said → Type 0

@@ -11,7 +11,7 @@ ghost use Rattle.signed.specs.Numbers.{said_by, written_by, decision_by, played_
 ghost use Rattle.signed.specs.Plays.{PlaySigned, TraceSigned};
 ghost use Rattle.signed.specs.WorstRuns.{WorstSigned};
 ghost use Rattle.signed.specs.Conversions.{ConvertSigned};
-ghost use Rattle.signed.specs.Reports.{words_in, said_in, ReportSigned, ReportLeft};
+ghost use Rattle.signed.specs.Reports.{words_in, said_in, text_in, ReportSigned, ReportLeft};
 
 use analysis::Decision;
 use lists::ListRead;
@@ -66,7 +66,7 @@ fn report_from_c(sheet: &[u8], text: &mut [u8]) -> u64
 }
 
 fn report_text(sheet: &[u8]) -> Text
-    ensures { ReportSigned (policy_of sheet.now) (tasks_of sheet.now) result.items (said_in (words_in result.items)) }
+    ensures { ReportSigned (policy_of sheet.now) (tasks_of sheet.now) (text_in result) (said_in (words_in (text_in result))) }
 {
     report_text::report_text(sheet)
 }

@@ -31,6 +31,10 @@ never_released = record { task = 0; tick = never; work = 0; lock = 0 }
 abbrev pub upcoming : List ℕ → Cast → ℕ → Entry
 upcoming s cast j = if nat_lt j cast.entries then entry_at cast.count s j else never_released
 
+-- how far a play has come, with that player
+abbrev pub with_player : Progress → Player → Progress
+with_player at player = record { player = player; frames = at.frames; released = at.released; next = at.next }
+
 -- all jobs are done: every one of n entries is released, and no task has the tick
 abbrev pub done_with : ℕ → Progress → Bool
 done_with n at = nat_le n at.released && is_none at.player.picked
