@@ -78,7 +78,7 @@ impl Progress {
         }
     }
 
-    // All jobs are done: every entry is released, and the player has picked no task.
+    // All jobs are done: every entry is released, and the player, which has picked and is not put back yet, has no task.
     fn all_done(&self, player: &Player, entries: u32) -> bool
         ensures { result ≡ done_with entries (with_player self.now player.now) }
     {
@@ -101,6 +101,7 @@ pub fn play_on(script: &[u8], cast: &Cast) -> Played
         if at.player.soonest <= moment {
             at.player = at.player.look_ahead(moment);
         }
+        // and at most of them nothing is released
         if at.next.tick == moment {
             at.releases(script, cast, moment);
         }
@@ -122,6 +123,7 @@ pub fn trace_on(script: &[u8], cast: &Cast, end: u32, ticks: &mut [u8])
     let order = &cast.order[..cast.count as usize];
     let mut at = Progress::start(script, cast);
     for moment in 0..end {
+        // at most ticks nothing is released
         if at.next.tick == moment {
             at.releases(script, cast, moment);
         }

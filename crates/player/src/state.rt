@@ -100,7 +100,6 @@ fn stretch_after(left: u32, length: u32) -> u32
     length.saturating_sub(1)
 }
 
-// A pick and a tick make the state that they return once, at their end: where two ways each make one, it is copied again as they meet.
 impl Player {
     // Nothing is pending when a run begins.
     pub fn start() -> Player
@@ -139,6 +138,7 @@ impl Player {
         } else {
             first_pending(&self.jobs, order)
         };
+        // made once, here: where each of two ways makes the state, it is copied again as they meet
         Player { picked, ..self }
     }
 
@@ -157,6 +157,7 @@ impl Player {
             jobs[i as usize] = Job { left, ..job };
             to_come = stretch_after(left, length);
         }
+        // made once, as by `pick`
         Player {
             jobs,
             to_come,
