@@ -4,7 +4,7 @@ use native.Mathlib.Omega.{arith}
 use Rattle.player.specs.State.{ticked, looking_ahead}
 use Rattle.player.specs.Inside.Course.{Gone, with_player}
 use Rattle.player.proofs.Soonest.{not_reached}
-use Rattle.player.proofs.Playing.{miss_ends, calm_ahead, none_released, picked_there, done_ends, goes_behind, never_past}
+use Rattle.player.proofs.Playing.{miss_ends, calm_ahead, none_released, done_ends, goes_behind, never_past}
 use Rattle.player.proofs.course.play_on.Goals as goal
 use Rattle.player.proofs.course.play_on.Goals.{then-at-moment, else-at-moment, then-at-moment-2, else-at-moment-2}
 
